@@ -1,0 +1,17 @@
+use mathlib.Core.Path.{refl, sym, ap, _∙_}
+use mathlib.Core.Bool.{true, false}
+use native.Mathlib.Omega.{arith}
+use lib.ListN.{getD}
+use Rattle.std.proofs.shelf.Lists.{getD-default}
+use Rattle.split.specs.Shares.{precedes, rank}
+use Rattle.split.proofs.Rows.{counted-more, counted-all}
+use Rattle.split.proofs.division.Division.rank.Needs as need
+
+pub loop-other-again : need.loop-other-again
+loop-other-again c =
+    counted-more (λ e. precedes e (c .args .self .now)) (c .args .row .now) (c .loop-other .other-index) (c .loop-other .count) (c .from-count .result) (getD (c .args .row .now) (c .loop-other .other-index) _) _
+    (c .loop-other-test .taken) (getD-default (c .args .row .now) (c .loop-other .other-index) _ _ (c .loop-other-test .taken)) (c .loop-other .inv) (c .from-count .ensures) (c .precedes .ensures)
+
+pub returns : need.returns
+unfolding rank
+returns c = counted-all (λ e. precedes e (c .args .self .now)) (c .args .row .now) (c .loop-other .other-index) (c .loop-other .count) (c .loop-other-test .left) (c .loop-other .inv)

@@ -1,0 +1,4 @@
+pub mod Laws
+pub mod Reasons
+pub mod Refusals
+pub mod Shares
