@@ -39,9 +39,9 @@ pub told-by-code : (a b : Division) → eqb (b .code) (a .code) ≡ false → (p
 told-by-code a b e =
     let other = eqb-false (b .code) (a .code) e in
     ⊎-elim
-      (λ same. ⊎-elim (λ (one : a .code < b .code). inl (grind (arith, tells))) (λ (past : b .code ≤ a .code). let less : b .code < a .code = ⊎-elim (λ lt. lt) (λ le. absurd (other (omega arith))) (cases-lt (b .code) (a .code)) in inr (grind (arith, tells))) (cases-lt (a .code) (b .code)))
-      (λ apart. ⊎-elim (λ (less : a .remainder < b .remainder). inr (grind (arith, tells))) (λ (more : b .remainder < a .remainder). inl (grind (arith, tells))) apart)
-      (cases-order (a .remainder) (b .remainder))
+    (λ same. ⊎-elim (λ (one : a .code < b .code). inl (grind (arith, tells))) (λ (past : b .code ≤ a .code). let less : b .code < a .code = ⊎-elim (λ lt. lt) (λ le. absurd (other (omega arith))) (cases-lt (b .code) (a .code)) in inr (grind (arith, tells))) (cases-lt (a .code) (b .code)))
+    (λ apart. ⊎-elim (λ (less : a .remainder < b .remainder). inr (grind (arith, tells))) (λ (more : b .remainder < a .remainder). inl (grind (arith, tells))) apart)
+    (cases-order (a .remainder) (b .remainder))
 
 -- Codes that stand once are apart, and so their divisions are told apart.
 
@@ -53,22 +53,24 @@ once-apart : (xs : List Stake) → All (λ x. with-code (x .code) xs ≤ 1) xs �
 once-apart [] h = tt
 once-apart (x ∷ xs) h =
     let own = sumBy-cons (λ (y : Stake). bit (eqb (y .code) (x .code))) x xs in
-    let self : bit (eqb (x .code) (x .code)) ≡ 1 = ap bit (eq-eqb (x .code) (x .code) refl) in
-    (none-passes (λ y. eqb (y .code) (x .code)) xs (omega (arith, own, self, h .0)),
-     once-apart xs (all-weaker (λ y. with-code (y .code) (x ∷ xs) ≤ 1) (λ y. with-code (y .code) xs ≤ 1) (λ y k. omega (arith, k, sumBy-cons (λ (z : Stake). bit (eqb (z .code) (y .code))) x xs)) xs (h .1)))
+    let self : bit (eqb (x .code) (x .code)) ≡ 1 = ap bit (eq-eqb (x .code) (x .code) refl) in (
+      none-passes (λ y. eqb (y .code) (x .code)) xs (omega (arith, own, self, h .0)),
+      once-apart xs (all-weaker (λ y. with-code (y .code) (x ∷ xs) ≤ 1) (λ y. with-code (y .code) xs ≤ 1) (λ y k. omega (arith, k, sumBy-cons (λ (z : Stake). bit (eqb (z .code) (y .code))) x xs)) xs (h .1)),
+    )
 
 apart-codes : (xs : List Stake) → repeated xs ≡ 0 → Apart xs
 apart-codes xs e =
     once-apart xs (all-weaker (λ x. ltb 1 (with-code (x .code) xs) ≡ false) (λ x. with-code (x .code) xs ≤ 1) (λ x h. ltb-false 1 (with-code (x .code) xs) h) xs
-      (none-passes (λ x. ltb 1 (with-code (x .code) xs)) xs e))
+    (none-passes (λ x. ltb 1 (with-code (x .code) xs)) xs e))
 
 told-divisions : (sum total : ℕ) (xs : List Stake) → Apart xs → Told precedes (map (divide sum total) xs)
 told-divisions sum total [] a = tt
-told-divisions sum total (x ∷ xs) a =
-    (all-map (λ d. (precedes (divide sum total x) d ≡ true) ⊎ (precedes d (divide sum total x) ≡ true)) (divide sum total) xs
-       (all-weaker (λ y. eqb (y .code) (x .code) ≡ false) (λ y. (precedes (divide sum total x) (divide sum total y) ≡ true) ⊎ (precedes (divide sum total y) (divide sum total x) ≡ true))
-         (λ y e. told-by-code (divide sum total x) (divide sum total y) e) xs (a .0)),
-     told-divisions sum total xs (a .1))
+told-divisions sum total (x ∷ xs) a = (
+  all-map (λ d. (precedes (divide sum total x) d ≡ true) ⊎ (precedes d (divide sum total x) ≡ true)) (divide sum total) xs
+      (all-weaker (λ y. eqb (y .code) (x .code) ≡ false) (λ y. (precedes (divide sum total x) (divide sum total y) ≡ true) ⊎ (precedes (divide sum total y) (divide sum total x) ≡ true))
+      (λ y e. told-by-code (divide sum total x) (divide sum total y) e) xs (a .0)),
+  told-divisions sum total xs (a .1),
+)
 
 -- What has no remainder gets no odd dollar: all that leave something come before it, and there are enough of them.
 
@@ -88,7 +90,7 @@ module _ (sum : ℕ) (xs : List Stake) where
 
   -- Each share lies less than a dollar from its exact proportion, sum × weight / all weights, multiplied out.
   pub near : 0 < all-weights xs → (x : Stake) →
-    (share sum xs x * all-weights xs < sum * x .weight + all-weights xs) × (sum * x .weight < share sum xs x * all-weights xs + all-weights xs)
+      (share sum xs x * all-weights xs < sum * x .weight + all-weights xs) × (sum * x .weight < share sum xs x * all-weights xs + all-weights xs)
   unfolding share
   near some x =
       let s = all-weights xs in
@@ -96,15 +98,15 @@ module _ (sum : ℕ) (xs : List Stake) where
       let exact = div-add-mod' (sum * x .weight) s in
       let small = mod-lt (sum * x .weight) some in
       ⊎-elim
-        (λ left. ⊎-elim
-          (λ yes′. let m = add-mul q 1 s in let is = ap (λ b. (q + bit b) * s) yes′ in (omega (arith, exact, small, m, is, left), omega (arith, exact, small, m, is, left)))
-          (λ no′. let m = add-mul q 0 s in let is = ap (λ b. (q + bit b) * s) no′ in (omega (arith, exact, small, m, is), omega (arith, exact, small, m, is)))
-          (cases-bool (takes-odd sum (divisions sum xs) (own x))))
-        (λ none.
-          let m = add-mul q 0 s in
-          let is = ap (λ b. (q + bit b) * s) (no-odd-dollar some x (omega (arith, none))) in
-          (omega (arith, exact, small, m, is), omega (arith, exact, small, m, is)))
-        (cases-lt 0 (own x .remainder))
+      (λ left. ⊎-elim
+      (λ yes′. let m = add-mul q 1 s in let is = ap (λ b. (q + bit b) * s) yes′ in (omega (arith, exact, small, m, is, left), omega (arith, exact, small, m, is, left)))
+      (λ no′. let m = add-mul q 0 s in let is = ap (λ b. (q + bit b) * s) no′ in (omega (arith, exact, small, m, is), omega (arith, exact, small, m, is)))
+      (cases-bool (takes-odd sum (divisions sum xs) (own x))))
+      (λ none.
+      let m = add-mul q 0 s in
+      let is = ap (λ b. (q + bit b) * s) (no-odd-dollar some x (omega (arith, none))) in
+      (omega (arith, exact, small, m, is), omega (arith, exact, small, m, is)))
+      (cases-lt 0 (own x .remainder))
 
   -- Without any weight there is no sum, and every share is 0.
   pub none-without-weights : (0 < sum → 0 < all-weights xs) → all-weights xs ≡ 0 → (x : Stake) → share sum xs x ≡ 0
@@ -119,25 +121,25 @@ module _ (sum : ℕ) (xs : List Stake) where
   pub nothing-without-weight : (0 < sum → 0 < all-weights xs) → (x : Stake) → x .weight ≡ 0 → share sum xs x ≡ 0
   nothing-without-weight weighty x none =
       ⊎-elim
-        (λ some.
-          let low = near some x .0 in
-          let zero-product : sum * x .weight ≡ 0 = ap (λ n. sum * n) none ∙ mul-zero sum in
-          let one : share sum xs x * all-weights xs < 1 * all-weights xs = omega (arith, low, zero-product) in
-          omega (arith, lt-of-mul-lt-mul-right (all-weights xs) one))
-        (λ at. none-without-weights weighty (omega (arith, at)) x)
-        (cases-lt 0 (all-weights xs))
+      (λ some.
+      let low = near some x .0 in
+      let zero-product : sum * x .weight ≡ 0 = ap (λ n. sum * n) none ∙ mul-zero sum in
+      let one : share sum xs x * all-weights xs < 1 * all-weights xs = omega (arith, low, zero-product) in
+      omega (arith, lt-of-mul-lt-mul-right (all-weights xs) one))
+      (λ at. none-without-weights weighty (omega (arith, at)) x)
+      (cases-lt 0 (all-weights xs))
 
   -- No share is above its weight where the sum is at most all the weights.
   pub within-weight : sum ≤ all-weights xs → (x : Stake) → share sum xs x ≤ x .weight
   within-weight le x =
       ⊎-elim
-        (λ some.
-          let low = near some x .0 in
-          let most : sum * x .weight ≤ x .weight * all-weights xs = omega (arith, mul-le-mul-left (x .weight) le, mul-comm sum (x .weight)) in
-          let over : share sum xs x * all-weights xs < (x .weight + 1) * all-weights xs = omega (arith, low, most, add-mul (x .weight) 1 (all-weights xs)) in
-          omega (arith, lt-of-mul-lt-mul-right (all-weights xs) over))
-        (λ at. omega (arith, none-without-weights (λ some. omega (arith, le, some)) (omega (arith, at)) x))
-        (cases-lt 0 (all-weights xs))
+      (λ some.
+      let low = near some x .0 in
+      let most : sum * x .weight ≤ x .weight * all-weights xs = omega (arith, mul-le-mul-left (x .weight) le, mul-comm sum (x .weight)) in
+      let over : share sum xs x * all-weights xs < (x .weight + 1) * all-weights xs = omega (arith, low, most, add-mul (x .weight) 1 (all-weights xs)) in
+      omega (arith, lt-of-mul-lt-mul-right (all-weights xs) over))
+      (λ at. omega (arith, none-without-weights (λ some. omega (arith, le, some)) (omega (arith, at)) x))
+      (cases-lt 0 (all-weights xs))
 
   odd-placed : repeated xs ≡ 0 → (0 < sum → 0 < all-weights xs) → countBy (takes-odd sum (divisions sum xs)) (divisions sum xs) ≡ odd-dollars sum (divisions sum xs)
   unfolding rank
@@ -145,10 +147,10 @@ module _ (sum : ℕ) (xs : List Stake) where
       let row = divisions sum xs in
       let placed = first-in-rank precedes strict (odd-dollars sum row) row (told-divisions sum (all-weights xs) xs (apart-codes xs once)) in
       let enough : odd-dollars sum row ≤ length row =
-        ⊎-elim
-          (λ some. omega (arith, odd-within sum xs some, countBy-le-length left-over row))
-          (λ at. ⊎-elim (λ due. absurd (omega (arith, weighty due, at))) (λ none. omega (arith, none, wholes-and-odd sum xs)) (cases-lt 0 sum))
-          (cases-lt 0 (all-weights xs)) in
+      ⊎-elim
+      (λ some. omega (arith, odd-within sum xs some, countBy-le-length left-over row))
+      (λ at. ⊎-elim (λ due. absurd (omega (arith, weighty due, at))) (λ none. omega (arith, none, wholes-and-odd sum xs)) (cases-lt 0 sum))
+      (cases-lt 0 (all-weights xs)) in
       omega (arith, placed, enough)
 
   -- The shares of an accepted split add up to the sum.
@@ -193,7 +195,7 @@ module _ (sum : ℕ) (xs ys : List Stake) (moved : Shuffled xs ys) where
   same-repeated : repeated ys ≡ repeated xs
   same-repeated =
       sumBy-same (λ (x : Stake). bit (ltb 1 (with-code (x .code) ys))) (λ x. bit (ltb 1 (with-code (x .code) xs))) ys
-        (all-of (λ x. bit (ltb 1 (with-code (x .code) ys)) ≡ bit (ltb 1 (with-code (x .code) xs))) (λ x. ap (λ n. bit (ltb 1 n)) (sumBy-shuffled (λ (y : Stake). bit (eqb (y .code) (x .code))) xs ys moved)) ys)
+      (all-of (λ x. bit (ltb 1 (with-code (x .code) ys)) ≡ bit (ltb 1 (with-code (x .code) xs))) (λ x. ap (λ n. bit (ltb 1 n)) (sumBy-shuffled (λ (y : Stake). bit (eqb (y .code) (x .code))) xs ys moved)) ys)
       ∙ sumBy-shuffled (λ (x : Stake). bit (ltb 1 (with-code (x .code) xs))) xs ys moved
 
   -- The same refusal, or none, in any order of the row.

@@ -65,9 +65,9 @@ module _ {X : Type 0} (lt : X → X → Bool) (o : Strict lt) where
       let one = ap bit h in
       let is : rank-in lt (a ∷ xs) x ≡ 1 + rank-in lt xs x = omega arith in
       ⊎-elim
-        (λ lo. ap bit (lt-ltb (rank-in lt (a ∷ xs) x) n (omega arith)) ∙ sym (ap bit (lt-ltb (rank-in lt xs x) (n - 1) (omega arith))))
-        (λ hi. ap bit (le-ltb (rank-in lt (a ∷ xs) x) n (omega arith)) ∙ sym (ap bit (le-ltb (rank-in lt xs x) (n - 1) (omega arith))))
-        (cases-lt (rank-in lt xs x) (n - 1))
+      (λ lo. ap bit (lt-ltb (rank-in lt (a ∷ xs) x) n (omega arith)) ∙ sym (ap bit (lt-ltb (rank-in lt xs x) (n - 1) (omega arith))))
+      (λ hi. ap bit (le-ltb (rank-in lt (a ∷ xs) x) n (omega arith)) ∙ sym (ap bit (le-ltb (rank-in lt xs x) (n - 1) (omega arith))))
+      (cases-lt (rank-in lt xs x) (n - 1))
   within n a xs near x has (inr h) =
       let more : rank-in lt (a ∷ xs) x ≡ bit (lt a x) + rank-in lt xs x = sumBy-cons (λ y. bit (lt y x)) a xs in
       let none = ap bit (one-way x a h) in
@@ -87,17 +87,17 @@ module _ {X : Type 0} (lt : X → X → Bool) (o : Strict lt) where
       let none = ap bit (o .irreflexive a) in
       let long = countBy-le-length (λ y. lt y a) xs in
       ⊎-elim
-        (λ near.
-          let rest : countBy (λ x. ltb (rank-in lt (a ∷ xs) x) n) xs ≡ countBy (λ x. ltb (rank-in lt xs x) (n - 1)) xs =
-            sumBy-same (λ x. bit (ltb (rank-in lt (a ∷ xs) x) n)) (λ x. bit (ltb (rank-in lt xs x) (n - 1))) xs
-              (all-weaker (λ x. Has xs x × ((lt a x ≡ true) ⊎ (lt x a ≡ true))) (λ x. bit (ltb (rank-in lt (a ∷ xs) x) n) ≡ bit (ltb (rank-in lt xs x) (n - 1)))
-                (λ x h. within n a xs near x (h .0) (h .1)) xs (both-all (Has xs) (λ x. (lt a x ≡ true) ⊎ (lt x a ≡ true)) xs (all-has-itself xs) (t .0))) in
-          let head : bit (ltb (rank-in lt (a ∷ xs) a) n) ≡ 1 = ap bit (lt-ltb (rank-in lt (a ∷ xs) a) n (omega arith)) in
-          omega (arith, parts, rest, head, first-in-rank (n - 1) xs (t .1)))
-        (λ far.
-          let rest : countBy (λ x. ltb (rank-in lt (a ∷ xs) x) n) xs ≡ countBy (λ x. ltb (rank-in lt xs x) n) xs =
-            sumBy-same (λ x. bit (ltb (rank-in lt (a ∷ xs) x) n)) (λ x. bit (ltb (rank-in lt xs x) n)) xs
-              (all-weaker (λ x. (lt a x ≡ true) ⊎ (lt x a ≡ true)) (λ x. bit (ltb (rank-in lt (a ∷ xs) x) n) ≡ bit (ltb (rank-in lt xs x) n)) (λ x h. beyond n a xs far x h) xs (t .0)) in
-          let head : bit (ltb (rank-in lt (a ∷ xs) a) n) ≡ 0 = ap bit (le-ltb (rank-in lt (a ∷ xs) a) n (omega arith)) in
-          omega (arith, parts, rest, head, first-in-rank n xs (t .1)))
-        (cases-lt (rank-in lt xs a) n)
+      (λ near.
+      let rest : countBy (λ x. ltb (rank-in lt (a ∷ xs) x) n) xs ≡ countBy (λ x. ltb (rank-in lt xs x) (n - 1)) xs =
+      sumBy-same (λ x. bit (ltb (rank-in lt (a ∷ xs) x) n)) (λ x. bit (ltb (rank-in lt xs x) (n - 1))) xs
+      (all-weaker (λ x. Has xs x × ((lt a x ≡ true) ⊎ (lt x a ≡ true))) (λ x. bit (ltb (rank-in lt (a ∷ xs) x) n) ≡ bit (ltb (rank-in lt xs x) (n - 1)))
+      (λ x h. within n a xs near x (h .0) (h .1)) xs (both-all (Has xs) (λ x. (lt a x ≡ true) ⊎ (lt x a ≡ true)) xs (all-has-itself xs) (t .0))) in
+      let head : bit (ltb (rank-in lt (a ∷ xs) a) n) ≡ 1 = ap bit (lt-ltb (rank-in lt (a ∷ xs) a) n (omega arith)) in
+      omega (arith, parts, rest, head, first-in-rank (n - 1) xs (t .1)))
+      (λ far.
+      let rest : countBy (λ x. ltb (rank-in lt (a ∷ xs) x) n) xs ≡ countBy (λ x. ltb (rank-in lt xs x) n) xs =
+      sumBy-same (λ x. bit (ltb (rank-in lt (a ∷ xs) x) n)) (λ x. bit (ltb (rank-in lt xs x) n)) xs
+      (all-weaker (λ x. (lt a x ≡ true) ⊎ (lt x a ≡ true)) (λ x. bit (ltb (rank-in lt (a ∷ xs) x) n) ≡ bit (ltb (rank-in lt xs x) n)) (λ x h. beyond n a xs far x h) xs (t .0)) in
+      let head : bit (ltb (rank-in lt (a ∷ xs) a) n) ≡ 0 = ap bit (le-ltb (rank-in lt (a ∷ xs) a) n (omega arith)) in
+      omega (arith, parts, rest, head, first-in-rank n xs (t .1)))
+      (cases-lt (rank-in lt xs a) n)

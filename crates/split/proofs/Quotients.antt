@@ -65,11 +65,11 @@ module _ (sum : ℕ) (xs : List Stake) where
   pub wholes-within : wholes (divisions sum xs) ≤ sum
   wholes-within =
       ⊎-elim
-        (λ none. omega (arith, ap (λ n. wholes (map (divide sum n) xs)) none, no-wholes sum xs))
-        (λ some.
-          let le : wholes (divisions sum xs) * all-weights xs ≤ sum * all-weights xs = omega (arith, exact) in
-          le-of-mul-le-mul-right le some)
-        (zero-or-more (all-weights xs))
+      (λ none. omega (arith, ap (λ n. wholes (map (divide sum n) xs)) none, no-wholes sum xs))
+      (λ some.
+      let le : wholes (divisions sum xs) * all-weights xs ≤ sum * all-weights xs = omega (arith, exact) in
+      le-of-mul-le-mul-right le some)
+      (zero-or-more (all-weights xs))
 
   -- so whole parts and odd dollars are the sum
   pub wholes-and-odd : wholes (divisions sum xs) + odd-dollars sum (divisions sum xs) ≡ sum
@@ -86,9 +86,9 @@ module _ (sum : ℕ) (xs : List Stake) where
       let r = divide sum (all-weights xs) x .remainder in
       let small = mod-lt (sum * x .weight) some in
       ⊎-elim
-        (λ above. omega (arith, small, ap (λ b. bit b * all-weights xs) (lt-ltb 0 r above)))
-        (λ at. omega (arith, at))
-        (cases-lt 0 r)
+      (λ above. omega (arith, small, ap (λ b. bit b * all-weights xs) (lt-ltb 0 r above)))
+      (λ at. omega (arith, at))
+      (cases-lt 0 r)
 
   times : (p : Division → Bool) (n : ℕ) (row : List Division) → sumBy (λ d. bit (p d) * n) row ≡ countBy p row * n
   times p n [] = omega arith
@@ -99,6 +99,6 @@ module _ (sum : ℕ) (xs : List Stake) where
   pub odd-within : 0 < all-weights xs → odd-dollars sum (divisions sum xs) ≤ countBy left-over (divisions sum xs)
   odd-within some =
       let below = sumBy-below remainder-of (λ d. bit (left-over d) * all-weights xs) (divisions sum xs)
-        (all-map (λ d. remainder-of d ≤ bit (left-over d) * all-weights xs) (divide sum (all-weights xs)) xs (all-of (λ x. remainder-of (divide sum (all-weights xs) x) ≤ bit (left-over (divide sum (all-weights xs) x)) * all-weights xs) (remainder-small some) xs)) in
+      (all-map (λ d. remainder-of d ≤ bit (left-over d) * all-weights xs) (divide sum (all-weights xs)) xs (all-of (λ x. remainder-of (divide sum (all-weights xs) x) ≤ bit (left-over (divide sum (all-weights xs) x)) * all-weights xs) (remainder-small some) xs)) in
       let le : odd-dollars sum (divisions sum xs) * all-weights xs ≤ countBy left-over (divisions sum xs) * all-weights xs = omega (arith, below, odd-exact, times left-over (all-weights xs) (divisions sum xs)) in
       le-of-mul-le-mul-right le some

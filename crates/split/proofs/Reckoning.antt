@@ -47,7 +47,7 @@ divisions-long sum xs = length-map xs (divide sum (all-weights xs))
 
 -- what was written, from the row on which it was reckoned
 pub explained : (sum total odd placed : ℕ) (xs : List Stake) (row : List Division) (new old : List Reason) → row ≡ divisions sum xs → total ≡ all-weights xs → placed ≡ wholes row → odd ≡ sum - placed →
-  new ≡ map (reckon total odd row) row ++ drop (length row) old → new ≡ reasons sum xs ++ drop (length (reasons sum xs)) old
+    new ≡ map (reckon total odd row) row ++ drop (length row) old → new ≡ reasons sum xs ++ drop (length (reasons sum xs)) old
 unfolding odd-dollars
 explained sum total odd placed xs row new old is weighs parts left written =
     let own : odd ≡ odd-dollars sum (divisions sum xs) = left ∙ ap (λ n. sum - n) (parts ∙ ap wholes is) in
@@ -58,7 +58,7 @@ explained sum total odd placed xs row new old is weighs parts left written =
 
 -- the shares that were copied out of the reasons are the shares of the row
 pub shared-out : (sum n : ℕ) (xs : List Stake) (table rest : List Reason) (new old : List ℕ) → n ≡ length xs → table ≡ reasons sum xs ++ rest →
-  new ≡ map (λ (r : Reason). r .share) (take (n - 0) table) ++ drop (length (take (n - 0) table)) old → new ≡ shares sum xs ++ drop (length (shares sum xs)) old
+    new ≡ map (λ (r : Reason). r .share) (take (n - 0) table) ++ drop (length (take (n - 0) table)) old → new ≡ shares sum xs ++ drop (length (shares sum xs)) old
 shared-out sum n xs table rest new old many written copied =
     let part : take (n - 0) table ≡ reasons sum xs = ap (take (n - 0)) written ∙ take-at (reasons sum xs) rest (n - 0) (length-map xs (reason sum xs) ∙ omega arith) in
     copied

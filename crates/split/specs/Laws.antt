@@ -26,8 +26,8 @@ Shares-add-up sum xs places = sumBy (λ amount. amount) (take (length xs) places
 abbrev pub Near-exact-proportion : ℕ → List Stake → List ℕ → Type 0
 Near-exact-proportion sum xs places =
     (k : ℕ) → k < length xs → 0 < all-weights xs →
-      (share-at places k * all-weights xs < sum * weight-at xs k + all-weights xs)
-      × (sum * weight-at xs k < share-at places k * all-weights xs + all-weights xs)
+    (share-at places k * all-weights xs < sum * weight-at xs k + all-weights xs)
+    × (sum * weight-at xs k < share-at places k * all-weights xs + all-weights xs)
 
 -- Where there is no weight, every share is 0.
 abbrev pub All-zero-without-weights : List Stake → List ℕ → Type 0

@@ -71,7 +71,7 @@ fn divide<B: Bearer>(sum: u64, total: u64, bearer: &B) -> Division
 }
 
 // Every bearer's division, one for each place from the first on; spare places stay.
-pub fn divide_all<B: Bearer>(sum: u64, total: u64, bearers: &[B], table: &mut [Division])
+pub(crate) fn divide_all<B: Bearer>(sum: u64, total: u64, bearers: &[B], table: &mut [Division])
     requires small { ⌜ sum ≤ 1000000000 ⌝ }
     requires light { ⌜ too-heavy (map bears (now bearers)) ≡ 0 ⌝ }
     requires room { ⌜ length (now bearers) ≤ length (now table) ⌝ }
@@ -83,7 +83,7 @@ pub fn divide_all<B: Bearer>(sum: u64, total: u64, bearers: &[B], table: &mut [D
 }
 
 // All the whole parts of a row together.
-pub fn whole_parts(row: &[Division]) -> u64
+pub(crate) fn whole_parts(row: &[Division]) -> u64
     requires { ⌜ sumBy (λ d. d .whole) (now row) ≤ 1000000000 ⌝ }
     ensures { λ r. ⌜ r ≡ sumBy (λ d. d .whole) (now (row .entry)) ⌝ }
 {

@@ -10,7 +10,6 @@ pub use bearer::Bearer;
 pub use bearer::Stake;
 pub use bearer::StakeBearer;
 pub use division::Division;
-pub use limits::MOST_BEARERS;
 pub use reason::Reason;
 pub use refusal::Refusal;
 pub use splitting::explain;

@@ -15,7 +15,7 @@ const SUM_LIMIT: u64 = 1_000_000_000;
 // The largest weight of one bearer.
 const WEIGHT_LIMIT: u64 = 9_000_000_000;
 // The most bearers of one row.
-pub const MOST_BEARERS: usize = 128;
+pub(crate) const MOST_BEARERS: usize = 128;
 
 // How many bearers weigh more than the limit.
 fn heavy<B: Bearer>(bearers: &[B]) -> usize
@@ -63,7 +63,7 @@ fn weigh<B: Bearer>(bearers: &[B]) -> u64
 }
 
 // Tests what a split asks, in the order of the refusals, and answers all the weights together.
-pub fn tested<B: Bearer>(sum: u64, places: usize, bearers: &[B]) -> Result<u64, Refusal>
+pub(crate) fn tested<B: Bearer>(sum: u64, places: usize, bearers: &[B]) -> Result<u64, Refusal>
     ensures answers { λ r. ⌜ told (λ _. tt) (λ e. e) r ≡ answer sum places (map bears (now (bearers .entry))) ⌝ }
     ensures weighs { λ r. ⌜ made r (λ total. total ≡ all-weights (map bears (now (bearers .entry)))) ⌝ }
 {

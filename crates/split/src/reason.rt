@@ -57,7 +57,7 @@ fn reckoned(total: u64, odd: u64, row: &[Division], division: Division) -> Reaso
 }
 
 // The reasons of a whole row, one for each place from the first on; spare places stay.
-pub fn reckon_all(total: u64, odd: u64, row: &[Division], reasons: &mut [Reason])
+pub(crate) fn reckon_all(total: u64, odd: u64, row: &[Division], reasons: &mut [Reason])
     requires light { ⌜ All (λ d. d .whole ≤ 1000000000) (now row) ⌝ }
     requires room { ⌜ length (now row) ≤ length (now reasons) ⌝ }
     ensures { λ _. ⌜ now (reasons .exit) ≡ map (reckon total odd (now (row .entry))) (now (row .entry)) ++ drop (length (now (row .entry))) (now (reasons .entry)) ⌝ }

@@ -22,6 +22,7 @@ use crate::refusal::Refusal;
 pub fn explain<B: Bearer>(sum: u64, bearers: &[B], reasons: &mut [Reason]) -> Result<(), Refusal>
     ensures answers_as_defined { λ r. ⌜ r ≡ answer sum (length (now (reasons .entry))) (map bears (now (bearers .entry))) ⌝ }
     ensures places_as_defined { λ r. ⌜ now (reasons .exit) ≡ placed r (reasons-of sum (map bears (now (bearers .entry)))) (now (reasons .entry)) ⌝ }
+    ensures reasons_end_in_the_shares { λ _. ⌜ map (λ reason. reason .share) (reasons-of sum (map bears (now (bearers .entry)))) ≡ shares-of sum (map bears (now (bearers .entry))) ⌝ }
 {
     let total = tested(sum, reasons.len(), bearers)?;
     let mut table = [Division::BLANK; MOST_BEARERS];

@@ -19,7 +19,7 @@ divide-requires g c κs =
     let i = c .loop-i .i in
     let x = c .index-bearers-i .result in
     let own : getD (map bears row) i (bears x) .weight ≤ 9000000000 =
-      all-getD (λ (y : Stake). y .weight ≤ 9000000000) (map bears row) i (bears x) (omega (arith, length-map row bears, c .loop-i-test .taken)) (light-each (map bears row) (c .pre .light)) in
+    all-getD (λ (y : Stake). y .weight ≤ 9000000000) (map bears row) i (bears x) (omega (arith, length-map row bears, c .loop-i-test .taken)) (light-each (map bears row) (c .pre .light)) in
     record { small = c .pre .small; light = omega (arith, own, ap (λ (y : Stake). y .weight) (getD-map bears row i x (bears x) (c .loop-i-test .taken)), ap (λ y. bears y .weight) (c .index-bearers-i .is)) }
 
 pub loop-i-again : need.loop-i-again

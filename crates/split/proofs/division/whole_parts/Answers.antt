@@ -14,9 +14,12 @@ pub add-count : need.add-count
 add-count c =
     let i = c .loop-division .division-index in
     let row = c .args .row .now in
-    omega (arith, c .pre,
+    omega (
+      arith,
+      c .pre,
       added-within (λ (d : Division). d .whole) row i (c .loop-division .count) (getD row i blank .whole) (getD row i blank) (c .loop-division-test .taken)
-      (getD-default row i blank (getD row i blank) (c .loop-division-test .taken)) (c .loop-division .inv) refl)
+          (getD-default row i blank (getD row i blank) (c .loop-division-test .taken)) (c .loop-division .inv) refl,
+    )
 
 pub loop-division-again : need.loop-division-again
 loop-division-again c =

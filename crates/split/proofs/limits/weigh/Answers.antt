@@ -8,9 +8,13 @@ use Rattle.split.proofs.limits.weigh.Needs as need
 pub add-total : need.add-total
 unfolding all-weights
 add-total g c =
-    omega (arith, c .pre, sumBy-map (λ (x : Stake). x .weight) (g .B·Bearer .bears) (c .args .bearers .now),
+    omega (
+      arith,
+      c .pre,
+      sumBy-map (λ (x : Stake). x .weight) (g .B·Bearer .bears) (c .args .bearers .now),
       added-within (λ x. g .B·Bearer .bears x .weight) (c .args .bearers .now) (c .loop-bearer .bearer-index) (c .loop-bearer .total) (c .weight-total .result) (c .bearer-item .result)
-      (c .loop-bearer-test .taken) (c .bearer-item .is) (c .loop-bearer .inv) (c .weight-total .ensures))
+          (c .loop-bearer-test .taken) (c .bearer-item .is) (c .loop-bearer .inv) (c .weight-total .ensures),
+    )
 
 pub loop-bearer-again : need.loop-bearer-again
 loop-bearer-again g c =

@@ -22,7 +22,7 @@ loop-i-again c =
     let row = c .args .row .now in
     ap (λ l. set l i (c .reckoned .result)) (c .loop-i .inv)
     ∙ filled-more (reckon (c .args .total) (c .args .odd) row) row (c .args .reasons .now) i (getD row i blank) (c .reckoned .result) (c .loop-i-test .taken) (omega arith)
-      (getD-default row i blank (getD row i blank) (c .loop-i-test .taken)) (c .reckoned .ensures)
+    (getD-default row i blank (getD row i blank) (c .loop-i-test .taken)) (c .reckoned .ensures)
 
 pub returns : need.returns
 returns c = c .loop-i .inv ∙ filled-all (reckon (c .args .total) (c .args .odd) (c .args .row .now)) (c .args .row .now) (c .args .reasons .now) (c .loop-i .i) (omega arith)

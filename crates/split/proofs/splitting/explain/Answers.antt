@@ -12,7 +12,7 @@ use Rattle.split.specs.Shares.{divisions, odd-dollars}
 use Rattle.split.specs.Reasons.{reckon, reason}
 use Rattle.split.proofs.Accepting.{accepted}
 use Rattle.split.proofs.Quotients.{wholes-within}
-use Rattle.split.proofs.Reckoning.{row-is, wholes-small, divisions-long, explained}
+use Rattle.split.proofs.Reckoning.{row-is, wholes-small, divisions-long, explained, shares-are}
 use Rattle.split.proofs.splitting.explain.Needs as need
 
 pub divide-all-requires : need.divide-all-requires
@@ -48,7 +48,7 @@ reckon-all-requires g c κs =
     let row = row-is (c .args .sum) (c .in-Continue-total .total) (length (c .args .bearers .now)) stakes (c .divide-all .last .table) _ (sym (length-map (c .args .bearers .now) (g .B·Bearer .bears))) (c .in-Continue-total .ensures tt .weighs) (c .divide-all .ensures) in
     record {
       light = subst (λ l. All (λ (d : Division). d .whole ≤ 1000000000) l) (sym row) (wholes-small (c .args .sum) stakes 1000000000 (ok .small));
-      room = omega (arith, ap length row, divisions-long (c .args .sum) stakes, ok .room)
+      room = omega (arith, ap length row, divisions-long (c .args .sum) stakes, ok .room);
     }
 
 pub returns : need.returns
@@ -58,5 +58,13 @@ returns g c =
     record {
       answers-as-defined = c .in-Continue-total .ensures tt .answers;
       places-as-defined = explained (c .args .sum) (c .in-Continue-total .total) (c .args .sum - c .whole-parts .result) (c .whole-parts .result) stakes (take (length (c .args .bearers .now) - 0) (c .divide-all .last .table)) (c .reckon-all .last .reasons) (c .args .reasons .now)
-        row (c .in-Continue-total .ensures tt .weighs) (c .whole-parts .ensures) refl (c .reckon-all .ensures)
+          row (c .in-Continue-total .ensures tt .weighs) (c .whole-parts .ensures) refl (c .reckon-all .ensures);
+      reasons-end-in-the-shares = shares-are (c .args .sum) stakes;
     }
+
+pub returns-in-Break-total : need.returns-in-Break-total
+returns-in-Break-total g c = record {
+  answers-as-defined = search needs;
+  places-as-defined = search needs;
+  reasons-end-in-the-shares = shares-are (c .args .sum) (map (g .B·Bearer .bears) (c .args .bearers .now));
+}

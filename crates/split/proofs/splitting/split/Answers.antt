@@ -25,7 +25,7 @@ returns-then-shares-bearers g c =
       all-zero-without-weights = tt;
       nothing-without-weight = tt;
       within-weight = tt;
-      same-in-any-order = same-in-any-order (c .args .sum) (length (c .args .shares .now)) stakes
+      same-in-any-order = same-in-any-order (c .args .sum) (length (c .args .shares .now)) stakes;
     }
 
 pub returns-in-Break-explain : need.returns-in-Break-explain
@@ -42,7 +42,7 @@ returns-in-Break-explain g c =
       all-zero-without-weights = made-from-err r _ (c .from-residual .ensures .0);
       nothing-without-weight = made-from-err r _ (c .from-residual .ensures .0);
       within-weight = made-from-err r _ (c .from-residual .ensures .0);
-      same-in-any-order = same-in-any-order (c .args .sum) (length (c .args .shares .now)) stakes
+      same-in-any-order = same-in-any-order (c .args .sum) (length (c .args .shares .now)) stakes;
     }
 
 pub part-share-out-end : need.part-share-out-end
@@ -55,8 +55,12 @@ part-share-out-end g c =
 pub share-out-requires : need.share-out-requires
 share-out-requires g c κs =
     let stakes = map (g .B·Bearer .bears) (c .args .bearers .now) in
-    omega (arith, c .if-shares-bearers .left, length-map (c .args .bearers .now) (g .B·Bearer .bears),
-      reasons-long (c .args .sum) (length (c .args .bearers .now)) stakes (c .explain .last .reasons) _ (sym (length-map (c .args .bearers .now) (g .B·Bearer .bears))) (c .in-Continue-explain .ensures tt .places-as-defined))
+    omega (
+      arith,
+      c .if-shares-bearers .left,
+      length-map (c .args .bearers .now) (g .B·Bearer .bears),
+      reasons-long (c .args .sum) (length (c .args .bearers .now)) stakes (c .explain .last .reasons) _ (sym (length-map (c .args .bearers .now) (g .B·Bearer .bears))) (c .in-Continue-explain .ensures tt .places-as-defined),
+    )
 
 pub returns : need.returns
 returns g c =
@@ -76,5 +80,5 @@ returns g c =
       all-zero-without-weights = zero-without-weights sum (length old) stakes ok (c .share-out .last .shares) rest written;
       nothing-without-weight = nothing-for-nothing sum (length old) stakes ok (c .share-out .last .shares) rest written;
       within-weight = within-each-weight sum (length old) stakes ok (c .share-out .last .shares) rest written;
-      same-in-any-order = same-in-any-order sum (length old) stakes
+      same-in-any-order = same-in-any-order sum (length old) stakes;
     }
