@@ -1,0 +1,4 @@
+mod Bearing
+mod Digits
+mod Single
+mod Wording
