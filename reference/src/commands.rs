@@ -141,7 +141,7 @@ mod tests {
             b"split 1 1:1:",
             b"split 1 1:1:1",
             b"split 1 1: 1",
-            b"split 1 1:#1",
+            b"split 1 1:#+1",
             b"split 1 -1:1",
             b"split 1 1:-1",
             b"split 1 4294967296:1",

@@ -1,3 +1,4 @@
+pub mod Lending
 mod Bearing
 mod Digits
 mod Single

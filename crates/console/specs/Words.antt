@@ -1,8 +1,9 @@
 -- The words of a line. Assumes nothing.
-use mathlib.Core.Bool.{Bool, cond, _||_}
+use mathlib.Core.Bool.{Bool, cond, _&&_, _||_}
 use mathlib.Core.List.{List, [], _∷_, _++_}
-use Prim.Native.Nat.{ℕ}
-use lib.Dec.{eqb}
+use Prim.Native.Nat.{ℕ, _-_}
+use lib.Dec.{eqb, ltb}
+use lib.ListN.{length, take, getD}
 
 -- What parts words: a space, a tab, a carriage return or a form feed.
 abbrev pub blank : ℕ → Bool
@@ -22,3 +23,7 @@ words-after word (b ∷ bs) =
 -- The words of a line.
 abbrev pub words-of : List ℕ → List (List ℕ)
 words-of line = words-after [] line
+
+-- A line without the byte 10 that ends it; the last line of an input may lack it.
+abbrev pub unended : List ℕ → List ℕ
+unended line = cond (ltb 0 (length line) && eqb (getD line (length line - 1) 0) 10) (take (length line - 1) line) line

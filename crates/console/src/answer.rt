@@ -1,8 +1,9 @@
 // The text that answers a split. No contract says what it is: it is tested.
+use crate::outcome::reasons_of;
+use crate::outcome::shares_of;
 use split::Reason;
 use split::Refusal;
 use split::Stake;
-use split::StakeBearer;
 use std::alloc::AllocError;
 use std::alloc::Global;
 use std::fmt;
@@ -87,16 +88,15 @@ pub(crate) fn answer_split(
     bearers: &[Stake],
     out: &mut String,
 ) -> Result<(), AllocError> {
-    let mut shares = vec![in heap; 0u64; bearers.len()]?;
-    if let Err(refusal) = split::split(sum, bearers, &mut shares) {
-        return print_refusal(refusal, out);
-    }
+    let shares = match shares_of(heap, sum, bearers)? {
+        Ok(shares) => shares,
+        Err(refusal) => return print_refusal(refusal, out),
+    };
     if !explaining {
-        return print_shares(bearers, &shares, out);
+        return print_shares(bearers, shares.as_slice(), out);
     }
-    let mut reasons = vec![in heap; Reason::BLANK; bearers.len()]?;
-    match split::explain(sum, bearers, &mut reasons) {
-        Ok(()) => print_explained(sum, bearers, &shares, &reasons, out),
+    match reasons_of(heap, sum, bearers)? {
+        Ok(reasons) => print_explained(sum, bearers, shares.as_slice(), reasons.as_slice(), out),
         Err(refusal) => print_refusal(refusal, out),
     }
 }

@@ -4,6 +4,7 @@ mod bearer;
 mod command;
 mod desk;
 mod numeral;
+mod outcome;
 mod streams;
 mod verb;
 mod word;

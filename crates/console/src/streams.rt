@@ -1,4 +1,7 @@
-// The console at standard input and output. No contract can say what is read and printed: the programs over it are run, and what they write is compared.
+// The console at standard input and output. No contract can say what is read and printed: the programs over it are run,
+// and what they write is compared.
+ghost use mathlib.Core.Path.{_≡_};
+ghost use Rattle.console.specs.Words.{unended};
 use crate::desk::Console;
 use std::io;
 use std::io::BufRead;
@@ -7,10 +10,14 @@ use std::io::BufWriter;
 use std::io::Write;
 
 // A line without the byte that ends it, which the last may lack.
-fn unended(line: &[u8]) -> &[u8] {
-    match line.split_last() {
-        Some((b'\n', told)) => told,
-        _ => line,
+fn without_end(line: &[u8]) -> &[u8]
+    ensures { λ r. ⌜ now r ≡ unended (now (line .entry)) ⌝ }
+{
+    let len = line.len();
+    if len > 0 && line[len - 1] == b'\n' {
+        &line[0..len - 1]
+    } else {
+        line
     }
 }
 
@@ -27,7 +34,7 @@ pub fn serve(rt: &LibcRuntime) -> io::Result<()> {
         if input.read_until(b'\n', &mut line)? == 0 {
             break;
         }
-        console.tell(heap, unended(line.as_slice()), &mut answer)?;
+        console.tell(heap, without_end(line.as_slice()), &mut answer)?;
         output.write_all(answer.as_bytes())?;
         // Where no more input waits, what is answered so far goes out.
         if input.buffer().is_empty() {

@@ -41,6 +41,14 @@ Nothing-without-weight xs places = (k : ℕ) → k < length xs → weight-at xs 
 abbrev pub Within-weight : ℕ → List Stake → List ℕ → Type 0
 Within-weight sum xs places = sum ≤ all-weights xs → (k : ℕ) → k < length xs → share-at places k ≤ weight-at xs k
 
+-- All of these together.
+pub record Fair-shares (sum : ℕ) (xs : List Stake) (places : List ℕ) : Type 0 where
+  pub shares-add-up : Shares-add-up sum xs places
+  pub near-exact-proportion : Near-exact-proportion sum xs places
+  pub all-zero-without-weights : All-zero-without-weights xs places
+  pub nothing-without-weight : Nothing-without-weight xs places
+  pub within-weight : Within-weight sum xs places
+
 -- Another row of the same bearers in any order, with as many places, is answered alike and gives each bearer the same share.
 abbrev pub Same-in-any-order : ℕ → ℕ → List Stake → Type 0
 Same-in-any-order sum places xs =

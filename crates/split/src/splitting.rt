@@ -4,7 +4,7 @@ ghost use mathlib.Core.List.{map, _++_};
 ghost use Prim.Native.Nat.{_≤_};
 ghost use lib.ListN.{length, drop};
 ghost use Rattle.std.specs.Vec.{made};
-ghost use Rattle.split.specs.Laws.{Shares-add-up, Near-exact-proportion, All-zero-without-weights, Nothing-without-weight, Within-weight, Same-in-any-order};
+ghost use Rattle.split.specs.Laws.{Fair-shares, Same-in-any-order};
 ghost use Rattle.split.specs.Reasons.{reasons as reasons-of};
 ghost use Rattle.split.specs.Refusals.{answer, placed};
 ghost use Rattle.split.specs.Shares.{shares as shares-of};
@@ -47,11 +47,7 @@ fn share_out(reasons: &[Reason], shares: &mut [u64])
 pub fn split<B: Bearer>(sum: u64, bearers: &[B], shares: &mut [u64]) -> Result<(), Refusal>
     ensures answers_as_defined { λ r. ⌜ r ≡ answer sum (length (now (shares .entry))) (map bears (now (bearers .entry))) ⌝ }
     ensures places_as_defined { λ r. ⌜ now (shares .exit) ≡ placed r (shares-of sum (map bears (now (bearers .entry)))) (now (shares .entry)) ⌝ }
-    ensures shares_add_up { λ r. ⌜ made r (λ _. Shares-add-up sum (map bears (now (bearers .entry))) (now (shares .exit))) ⌝ }
-    ensures near_exact_proportion { λ r. ⌜ made r (λ _. Near-exact-proportion sum (map bears (now (bearers .entry))) (now (shares .exit))) ⌝ }
-    ensures all_zero_without_weights { λ r. ⌜ made r (λ _. All-zero-without-weights (map bears (now (bearers .entry))) (now (shares .exit))) ⌝ }
-    ensures nothing_without_weight { λ r. ⌜ made r (λ _. Nothing-without-weight (map bears (now (bearers .entry))) (now (shares .exit))) ⌝ }
-    ensures within_weight { λ r. ⌜ made r (λ _. Within-weight sum (map bears (now (bearers .entry))) (now (shares .exit))) ⌝ }
+    ensures fair_shares { λ r. ⌜ made r (λ _. Fair-shares sum (map bears (now (bearers .entry))) (now (shares .exit))) ⌝ }
     ensures same_in_any_order { λ _. ⌜ Same-in-any-order sum (length (now (shares .entry))) (map bears (now (bearers .entry))) ⌝ }
 {
     if shares.len() < bearers.len() {

@@ -180,7 +180,7 @@ fn unreadable_bearer(random: &mut Random, &Bearer { code, weight }: &Bearer) -> 
 pub fn bad_command(random: &mut Random) -> Vec<Vec<u8>> {
     const LINES: [&[&[u8]]; 44] = [
         &[b"split"],
-        &[b"split", b"#5", b"1:1"],
+        &[b"split", b"#+5", b"1:1"],
         &[b"Split", b"5", b"1:1"],
         &[b"SPLIT", b"5", b"1:1"],
         &[b"splits", b"5", b"1:1"],
@@ -298,8 +298,8 @@ pub fn lay_out(random: &mut Random, words: &[Vec<u8>]) -> Vec<u8> {
         line.extend(random.pick(&[
             &b"#"[..],
             b" # a comment",
-            b"#5",
-            b" #9:9",
+            b"#+5",
+            b" #+9:9",
             b"\t##",
             b"# 7:x",
             b" #\xff\0",

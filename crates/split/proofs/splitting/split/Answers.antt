@@ -10,7 +10,7 @@ use Rattle.std.proofs.shelf.Results.{err-from-errBy, made-from-err}
 use Rattle.split.specs.Refusals.{placed}
 use Rattle.split.specs.Shares.{shares}
 use Rattle.split.proofs.Accepting.{accepted, too-few-places, enough-places}
-use Rattle.split.proofs.Promises.{same-in-any-order, they-add-up, they-are-near, zero-without-weights, nothing-for-nothing, within-each-weight}
+use Rattle.split.proofs.Promises.{same-in-any-order, fair-shares}
 use Rattle.split.proofs.Reckoning.{shared-out, reasons-long}
 use Rattle.split.proofs.splitting.split.Needs as need
 
@@ -20,11 +20,7 @@ returns-then-shares-bearers g c =
     record {
       answers-as-defined = too-few-places (c .args .sum) (length (c .args .shares .now)) stakes (omega (arith, length-map (c .args .bearers .now) (g .B·Bearer .bears)));
       places-as-defined = refl;
-      shares-add-up = tt;
-      near-exact-proportion = tt;
-      all-zero-without-weights = tt;
-      nothing-without-weight = tt;
-      within-weight = tt;
+      fair-shares = tt;
       same-in-any-order = same-in-any-order (c .args .sum) (length (c .args .shares .now)) stakes;
     }
 
@@ -37,11 +33,7 @@ returns-in-Break-explain g c =
     record {
       answers-as-defined = p .1 ∙ ap Err (p .2) ∙ c .in-Break-explain .ensures tt .answers-as-defined ∙ enough-places (c .args .sum) (length (c .args .shares .now)) stakes many;
       places-as-defined = sym (ap (λ x. placed x (shares (c .args .sum) stakes) (c .args .shares .now)) (p .1));
-      shares-add-up = made-from-err r _ (c .from-residual .ensures .0);
-      near-exact-proportion = made-from-err r _ (c .from-residual .ensures .0);
-      all-zero-without-weights = made-from-err r _ (c .from-residual .ensures .0);
-      nothing-without-weight = made-from-err r _ (c .from-residual .ensures .0);
-      within-weight = made-from-err r _ (c .from-residual .ensures .0);
+      fair-shares = made-from-err r _ (c .from-residual .ensures .0);
       same-in-any-order = same-in-any-order (c .args .sum) (length (c .args .shares .now)) stakes;
     }
 
@@ -75,10 +67,6 @@ returns g c =
     record {
       answers-as-defined = said;
       places-as-defined = written;
-      shares-add-up = they-add-up sum (length old) stakes ok (c .share-out .last .shares) rest written;
-      near-exact-proportion = they-are-near sum (length old) stakes ok (c .share-out .last .shares) rest written;
-      all-zero-without-weights = zero-without-weights sum (length old) stakes ok (c .share-out .last .shares) rest written;
-      nothing-without-weight = nothing-for-nothing sum (length old) stakes ok (c .share-out .last .shares) rest written;
-      within-weight = within-each-weight sum (length old) stakes ok (c .share-out .last .shares) rest written;
+      fair-shares = fair-shares sum (length old) stakes ok (c .share-out .last .shares) rest written;
       same-in-any-order = same-in-any-order sum (length old) stakes;
     }
