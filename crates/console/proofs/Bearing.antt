@@ -1,14 +1,13 @@
 -- Where a word's first colon stands, and what a bearer is made of.
 use mathlib.Core.Path.{_≡_, refl, sym, ap, _∙_}
-use mathlib.Core.Bool.{true, false, cond}
-use mathlib.Core.List.{List, [], _∷_, _++_, append-assoc, map}
+use mathlib.Core.List.{List, [], _∷_, _++_, map}
 use Prim.Native.Nat.{ℕ, suc, _+_, _<_, _≤_}
 use native.Mathlib.Omega.{arith}
 use lib.ListN.{length, getD, take, drop}
 use lib.Dec.{eqb}
 use Rattle.std.specs.declared.option.Option.{Option}
 use Rattle.std.specs.declared.option.Option.the-variants.{Some, None}
-use Rattle.std.proofs.shelf.Lists.{at-drop-more, at-drop-all, drop-all, append-nil}
+use Rattle.std.proofs.shelf.Lists.{at-drop-more, at-drop-all, drop-all, append-nil, append-assoc}
 use Rattle.std.proofs.shelf.Tests.{cond-true, cond-false, eq-eqb, ne-eqb}
 use Rattle.split.specs.declared.bearer.Stake.{Stake}
 use Rattle.console.specs.Numerals.{digits-value, number-of}
@@ -28,15 +27,7 @@ module _ (word : List ℕ) (i : ℕ) where
   unfolding colon-at
   at-end h = at-drop-all colon-at word i h
 
-pub colon-within : (word : List ℕ) → colon-at word ≤ length word
-unfolding colon-at
-colon-within [] = omega arith
-colon-within (b ∷ bs) =
-    elim (eqb b 58) as (λ t. cond t 0 (suc (colon-at bs)) ≤ suc (length bs)) [
-      | true ↦ omega arith
-      | false ↦ let rest : colon-at bs ≤ length bs = colon-within bs in omega arith
-    ]
-
+-- No bearer without a weight.
 nothing : (code : Option ℕ) → stake code None ≡ None
 nothing None = refl
 nothing (Some c) = refl

@@ -1,3 +1,5 @@
+pub mod Saying
+pub mod Printing
 pub mod Lending
 mod Bearing
 mod Digits

@@ -5,7 +5,7 @@ use Prim.Native.Nat.{ℕ}
 use native.Mathlib.Omega.{arith}
 use lib.ListN.{length, getD}
 use Rattle.console.specs.Verbs.{switch-of}
-use Rattle.console.specs.Readings.{Meaning, bad-command, explains-if, explain-told}
+use Rattle.console.specs.Readings.{bad-command, explains-if, explain-told}
 
 -- Words held as X, each with its bytes.
 module _ {X : Type 0} (bytes : X → List ℕ) where

@@ -1,4 +1,6 @@
+pub mod Answers
 pub mod Bearers
+pub mod Lines
 pub mod Numerals
 pub mod Outcomes
 pub mod Readings

@@ -6,7 +6,6 @@ use Rattle.std.specs.Of.Vec.{vec-items}
 use Rattle.std.specs.declared.option.Option.{Option}
 use Rattle.std.specs.declared.option.Option.the-variants.{Some, None}
 use Rattle.split.specs.declared.bearer.Stake.{Stake}
-use Rattle.console.specs.declared.command.Command.{Command}
 use Rattle.console.specs.declared.command.Command.the-variants as command
 use Rattle.console.specs.declared.command.Reading.{Reading}
 use Rattle.console.specs.declared.command.Reading.the-variants as reading

@@ -1,30 +1,27 @@
 -- The laws of the splitting, of its definitions: callers use these and never the definitions' text. Assumes nothing.
 use mathlib.Core.Path.{_≡_, refl, sym, ap, _∙_}
-use mathlib.Core.Bool.{Bool, true, false, cond}
+use mathlib.Core.Bool.{true, false}
 use mathlib.Core.List.{List, [], _∷_, map}
 use mathlib.Core.Logic.{_⊎_, inl, inr, ⊎-elim}
-use Prim.Native.Nat.{ℕ, zero, suc, _+_, _-_, _*_, _/_, _%_, _≤_, _<_, min}
+use Prim.Native.Nat.{ℕ, _+_, _-_, _*_, _/_, _≤_, _<_}
 use native.Mathlib.Nat.{add-mul, mul-zero, zero-mul, zero-div, mod-lt, div-add-mod', mul-le-mul-left, mul-comm, lt-of-mul-lt-mul-right}
 use native.Mathlib.Omega.{arith}
 use lib.Dec.{eqb, ltb}
 use lib.ListN.{length}
 use Rattle.std.specs.Slices.{Shuffled}
 use Rattle.std.specs.shelf.Lists.{All, sumBy, countBy}
-use Rattle.std.specs.declared.result.Result.the-variants.{Ok}
 use Rattle.std.proofs.shelf.Elements.{all-weaker, all-map}
-use Rattle.std.proofs.shelf.Lists.{length-map}
 use Rattle.std.proofs.shelf.Sorted.{sumBy-shuffled, length-shuffled}
 use Rattle.std.proofs.shelf.Sums.{sumBy-cons, countBy-le-length}
 use Rattle.std.proofs.shelf.Tests.{cases-lt, cases-order, cases-bool, le-ltb, ltb-false, eq-eqb, eqb-false}
 use Rattle.std.proofs.shelf.Ways.{tells}
 use Rattle.split.specs.declared.bearer.Stake.{Stake}
 use Rattle.split.specs.declared.division.Division.{Division}
-use Rattle.split.specs.Refusals.{answer, too-heavy, with-code, repeated}
+use Rattle.split.specs.Refusals.{answer, with-code, repeated}
 use Rattle.split.specs.Shares.{all-weights, divide, divisions, precedes, rank, odd-dollars, takes-odd, share}
-use Rattle.split.proofs.Accepting.{Accepted, accepted}
 use Rattle.split.proofs.Counts.{all-of, bit, none-passes, fewer, bit-below, sumBy-both, sumBy-same}
 use Rattle.split.proofs.Orders.{Told, Strict, first-in-rank}
-use Rattle.split.proofs.Quotients.{wholes, left-over, wholes-and-odd, odd-within}
+use Rattle.split.proofs.Quotients.{left-over, wholes-and-odd, odd-within}
 use Rattle.split.proofs.Rows.{sumBy-map}
 
 -- The order of the odd dollars is strict, and tells bearers with different codes apart.

@@ -1,4 +1,5 @@
 pub mod Accepting
+pub mod Blanks
 pub mod Counts
 pub mod Fairness
 pub mod Orders

@@ -1,17 +1,16 @@
 -- Ranks in a strict order that tells the elements of a list apart: just n of them have a rank below n. Assumes nothing.
 use mathlib.Core.Path.{_≡_, refl, sym, ap, _∙_}
-use mathlib.Core.Bool.{Bool, true, false, cond}
+use mathlib.Core.Bool.{Bool, true, false}
 use mathlib.Core.List.{List, [], _∷_}
 use mathlib.Core.Logic.{_⊎_, inl, inr, ⊎-elim}
 use Prim.Native.Nat.{ℕ, _+_, _-_, _≤_, _<_, min}
 use native.Mathlib.Omega.{arith}
 use lib.Dec.{ltb}
-use lib.ListN.{length, getD}
-use Rattle.std.specs.shelf.Lists.{All, Has, sumBy, countBy}
-use Rattle.std.proofs.shelf.Elements.{all-weaker, all-has-itself, all-from-getD}
+use lib.ListN.{length}
+use Rattle.std.specs.shelf.Lists.{All, Has, countBy}
+use Rattle.std.proofs.shelf.Elements.{all-weaker, all-has-itself}
 use Rattle.std.proofs.shelf.Sums.{sumBy-cons, countBy-le-length}
 use Rattle.std.proofs.shelf.Tests.{cases-lt, lt-ltb, le-ltb, both-ways}
-use Rattle.std.proofs.shelf.Ways.{tells}
 use Rattle.split.proofs.Counts.{all-of, bit, bit-below, fewer, strictly-fewer, sumBy-same}
 
 -- each element of the list stands before or after every other

@@ -1,17 +1,16 @@
 -- The whole parts and remainders of a row of divisions by one total. Assumes nothing.
-use mathlib.Core.Path.{_≡_, refl, sym, ap, _∙_}
-use mathlib.Core.Bool.{Bool, true, false, cond}
+use mathlib.Core.Path.{_≡_, refl, ap, _∙_}
+use mathlib.Core.Bool.{Bool}
 use mathlib.Core.List.{List, [], _∷_, map}
 use mathlib.Core.Logic.{_⊎_, inl, inr, ⊎-elim}
-use Prim.Native.Nat.{ℕ, zero, suc, _+_, _-_, _*_, _/_, _%_, _≤_, _<_}
-use native.Mathlib.Nat.{mul-add, add-mul, div-add-mod', div-zero, mod-lt, mul-le-mul-right, le-of-mul-le-mul-right}
+use Prim.Native.Nat.{ℕ, zero, suc, _+_, _*_, _/_, _≤_, _<_}
+use native.Mathlib.Nat.{mul-add, add-mul, div-add-mod', div-zero, mod-lt, le-of-mul-le-mul-right}
 use native.Mathlib.Omega.{arith}
 use lib.Dec.{ltb}
-use lib.ListN.{length}
-use Rattle.std.specs.shelf.Lists.{All, sumBy, countBy}
+use Rattle.std.specs.shelf.Lists.{sumBy, countBy}
 use Rattle.std.proofs.shelf.Elements.{all-map}
 use Rattle.std.proofs.shelf.Sums.{sumBy-cons}
-use Rattle.std.proofs.shelf.Tests.{cases-lt, lt-ltb, le-ltb}
+use Rattle.std.proofs.shelf.Tests.{cases-lt, lt-ltb}
 use Rattle.split.specs.declared.bearer.Stake.{Stake}
 use Rattle.split.specs.declared.division.Division.{Division}
 use Rattle.split.specs.Shares.{divide, divisions, all-weights, odd-dollars}

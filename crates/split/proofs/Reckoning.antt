@@ -4,7 +4,7 @@ use mathlib.Core.List.{List, map, _++_}
 use Prim.Native.Nat.{ℕ, _-_, _≤_}
 use native.Mathlib.Omega.{arith}
 use lib.ListN.{length, take, drop}
-use Rattle.std.specs.shelf.Lists.{All, sumBy}
+use Rattle.std.specs.shelf.Lists.{All}
 use Rattle.std.proofs.shelf.Elements.{all-from-getD}
 use Rattle.std.proofs.shelf.Lists.{length-map, take-at}
 use Rattle.std.proofs.shelf.Sums.{getD-le-sumBy}
@@ -12,7 +12,8 @@ use Rattle.split.specs.declared.bearer.Stake.{Stake}
 use Rattle.split.specs.declared.division.Division.{Division}
 use Rattle.split.specs.declared.reason.Reason.{Reason}
 use Rattle.split.specs.Reasons.{reason, reasons, reckon}
-use Rattle.split.specs.Shares.{divide, divisions, all-weights, odd-dollars, rank, share, shares}
+use Rattle.split.specs.Shares.{divide, divisions, all-weights, odd-dollars, share, shares}
+use Rattle.split.proofs.Blanks.{blank-division}
 use Rattle.split.proofs.Quotients.{wholes, wholes-within}
 use Rattle.split.proofs.Rows.{map-map}
 
@@ -26,8 +27,8 @@ row-is sum total n xs table rest many weighs written =
 -- no whole part is above the sum
 pub wholes-small : (sum : ℕ) (xs : List Stake) (most : ℕ) → sum ≤ most → All (λ d. d .whole ≤ most) (divisions sum xs)
 wholes-small sum xs most small =
-    all-from-getD (λ d. d .whole ≤ most) (divisions sum xs) (record { code = 0; weight = 0; whole = 0; remainder = 0 })
-    (λ i within. omega (arith, small, wholes-within sum xs, getD-le-sumBy (λ (d : Division). d .whole) (divisions sum xs) i (record { code = 0; weight = 0; whole = 0; remainder = 0 }) within))
+    all-from-getD (λ d. d .whole ≤ most) (divisions sum xs) blank-division
+    (λ i within. omega (arith, small, wholes-within sum xs, getD-le-sumBy (λ (d : Division). d .whole) (divisions sum xs) i blank-division within))
 
 -- what is reckoned of each division is the reason of each bearer
 pub reasons-are : (sum total odd : ℕ) (xs : List Stake) → total ≡ all-weights xs → odd ≡ odd-dollars sum (divisions sum xs) → map (reckon total odd (divisions sum xs)) (divisions sum xs) ≡ reasons sum xs
@@ -69,3 +70,12 @@ shared-out sum n xs table rest new old many written copied =
 pub reasons-long : (sum n : ℕ) (xs : List Stake) (table rest : List Reason) → n ≡ length xs → table ≡ reasons sum xs ++ rest → length (take (n - 0) table) ≡ length xs
 reasons-long sum n xs table rest many written =
     ap (λ l. length (take (n - 0) l)) written ∙ ap length (take-at (reasons sum xs) rest (n - 0) (length-map xs (reason sum xs) ∙ omega arith)) ∙ length-map xs (reason sum xs)
+
+-- a reason is of its bearer, and ends in its share
+pub reason-code : (sum : ℕ) (xs : List Stake) (x : Stake) → reason sum xs x .division .code ≡ x .code
+unfolding reason
+reason-code sum xs x = refl
+
+pub reason-share : (sum : ℕ) (xs : List Stake) (x : Stake) → reason sum xs x .share ≡ share sum xs x
+unfolding reason share
+reason-share sum xs x = refl

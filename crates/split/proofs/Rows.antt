@@ -7,7 +7,7 @@ use native.Mathlib.Omega.{arith}
 use lib.ListN.{length, take, drop, set, getD}
 use mir.Val.{boolByte}
 use Rattle.std.specs.shelf.Lists.{folded, sumBy, countBy}
-use Rattle.std.proofs.shelf.Lists.{map-more, take-more, take-all, drop-more, length-map, length-take-le, set-at, append-assoc}
+use Rattle.std.proofs.shelf.Lists.{map-more, take-all, drop-more, length-map, length-take-le, set-at, append-assoc}
 use Rattle.std.proofs.shelf.Sums.{sumBy-more, sumBy-take-le}
 
 -- a sum over what a function gives of each element

@@ -12,5 +12,7 @@ pub use bearer::StakeBearer;
 pub use division::Division;
 pub use reason::Reason;
 pub use refusal::Refusal;
+pub use refusal::RefusalDebug;
+pub use refusal::RefusalPartialEq;
 pub use splitting::explain;
 pub use splitting::split;

@@ -1,4 +1,4 @@
-use mathlib.Core.Path.{_≡_, ap, _∙_}
+use mathlib.Core.Path.{ap, _∙_}
 use Rattle.std.specs.Of.Vec.{vec-items}
 use Rattle.console.specs.Bearers.{bearer-of}
 use Rattle.console.proofs.Bearing.{one-more, not-one, no-more}

@@ -1,15 +1,14 @@
-use mathlib.Core.Path.{sym, ap, subst, _∙_}
-use mathlib.Core.List.{List, map, _++_}
+use mathlib.Core.Path.{sym, ap, _∙_}
+use mathlib.Core.List.{map, _++_}
 use Prim.Native.Nat.{_≤_}
 use native.Mathlib.Omega.{arith}
 use lib.ListN.{length, drop, getD, set}
 use Rattle.std.proofs.shelf.Elements.{all-getD}
 use Rattle.std.proofs.shelf.Lists.{getD-map, length-map}
 use Rattle.split.specs.declared.bearer.Stake.{Stake}
-use Rattle.split.specs.declared.division.Division.{Division}
 use Rattle.split.specs.Shares.{divide}
 use Rattle.split.proofs.Accepting.{light-each}
-use Rattle.split.proofs.Rows.{filled, filled-more, filled-all, map-map}
+use Rattle.split.proofs.Rows.{filled-more, filled-all, map-map}
 use Rattle.split.proofs.division.divide_all.Needs as need
 
 pub divide-requires : need.divide-requires

@@ -1,15 +1,12 @@
-use mathlib.Core.Path.{_≡_, refl, sym, ap, subst, _∙_}
-use mathlib.Core.List.{List, map, _++_}
-use Prim.Native.Nat.{ℕ, _-_, _≤_}
+use mathlib.Core.Path.{refl, sym, ap, subst}
+use mathlib.Core.List.{map}
+use Prim.Native.Nat.{_-_, _≤_}
 use native.Mathlib.Omega.{arith}
 use borrow.Author.Needs.{needs}
-use lib.ListN.{length, take, drop}
+use lib.ListN.{length, take}
 use Rattle.std.specs.shelf.Lists.{All, sumBy}
 use Rattle.std.proofs.shelf.Lists.{length-map}
 use Rattle.split.specs.declared.division.Division.{Division}
-use Rattle.split.specs.declared.reason.Reason.{Reason}
-use Rattle.split.specs.Shares.{divisions, odd-dollars}
-use Rattle.split.specs.Reasons.{reckon, reason}
 use Rattle.split.proofs.Accepting.{accepted}
 use Rattle.split.proofs.Quotients.{wholes-within}
 use Rattle.split.proofs.Reckoning.{row-is, wholes-small, divisions-long, explained, shares-are}
