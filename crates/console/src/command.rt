@@ -80,7 +80,7 @@ fn read_words(heap: Global, words: &[Vec<u8>]) -> Result<Reading, AllocError>
 
 // What a line tells.
 pub fn read(heap: Global, line: &[u8]) -> Result<Reading, AllocError>
-    ensures { λ r. ⌜ made r (λ x. meaning x ≡ reading-of (now (line .entry))) ⌝ }
+    ensures means_what_the_line_tells { λ r. ⌜ made r (λ x. meaning x ≡ reading-of (now (line .entry))) ⌝ }
 {
     let found = words(heap, line)?;
     read_words(heap, found.as_slice())

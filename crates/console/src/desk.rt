@@ -23,7 +23,7 @@ pub struct Console {
 impl Console {
     // A console that prints no explanations.
     pub fn new() -> Console
-        ensures { λ r. ⌜ r .explaining ≡ false ⌝ }
+        ensures explains_nothing_yet { λ r. ⌜ r .explaining ≡ false ⌝ }
     {
         Console { explaining: false }
     }

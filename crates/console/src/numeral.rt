@@ -29,7 +29,7 @@ fn unsigned(word: &[u8]) -> &[u8]
 
 // The number that a word is, if it is one and at most the largest.
 pub fn number(word: &[u8], largest: u64) -> Option<u64>
-    ensures { λ r. ⌜ r ≡ number-of largest (now (word .entry)) ⌝ }
+    ensures is_the_number_of_the_word { λ r. ⌜ r ≡ number-of largest (now (word .entry)) ⌝ }
 {
     let digits = unsigned(word);
     if digits.is_empty() {

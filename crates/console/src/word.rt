@@ -27,7 +27,7 @@ fn end_word(heap: Global, found: &mut Vec<Vec<u8>>, word: &mut Vec<u8>) -> Resul
 
 // The words of a line: what stands between blanks, up to the first `#`.
 pub fn words(heap: Global, line: &[u8]) -> Result<Vec<Vec<u8>>, AllocError>
-    ensures { λ r. ⌜ made r (λ v. map vec-items (vec-items v) ≡ words-of (now (line .entry))) ⌝ }
+    ensures gives_the_words_of_the_line { λ r. ⌜ made r (λ v. map vec-items (vec-items v) ≡ words-of (now (line .entry))) ⌝ }
 {
     let mut found = Vec::new(heap);
     let mut word = Vec::new(heap);

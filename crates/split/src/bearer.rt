@@ -16,11 +16,11 @@ pub trait Bearer {
 
     // The number that tells it from every other bearer of its row.
     fn code(&self) -> u32
-        ensures { λ r. ⌜ r ≡ bears (now (self .entry)) .code ⌝ };
+        ensures is_the_code_it_bears { λ r. ⌜ r ≡ bears (now (self .entry)) .code ⌝ };
 
     // What it weighs against the others.
     fn weight(&self) -> u64
-        ensures { λ r. ⌜ r ≡ bears (now (self .entry)) .weight ⌝ };
+        ensures is_the_weight_it_bears { λ r. ⌜ r ≡ bears (now (self .entry)) .weight ⌝ };
 }
 
 // A stake bears itself.

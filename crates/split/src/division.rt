@@ -30,7 +30,7 @@ impl Division {
 
     // The larger remainder comes first; between equal remainders the lower code.
     pub fn precedes(&self, other: &Division) -> bool
-        ensures { λ r. ⌜ r ≡ comes-first (now (self .entry)) (now (other .entry)) ⌝ }
+        ensures larger_remainder_then_lower_code { λ r. ⌜ r ≡ comes-first (now (self .entry)) (now (other .entry)) ⌝ }
     {
         if self.remainder == other.remainder {
             self.code < other.code
@@ -41,7 +41,7 @@ impl Division {
 
     // How many of the row come first.
     pub fn rank(&self, row: &[Division]) -> usize
-        ensures { λ r. ⌜ r ≡ rank-of (now (row .entry)) (now (self .entry)) ⌝ }
+        ensures counts_those_before { λ r. ⌜ r ≡ rank-of (now (row .entry)) (now (self .entry)) ⌝ }
     {
         let mut count = 0;
         for other in row {

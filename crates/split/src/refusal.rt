@@ -15,7 +15,7 @@ pub enum Refusal {
 impl Refusal {
     // The number by which the refusal is told.
     pub fn number(self) -> u8
-        ensures { λ r. ⌜ r ≡ number-of self ⌝ }
+        ensures is_the_listed_number { λ r. ⌜ r ≡ number-of self ⌝ }
     {
         match self {
             Refusal::Limit => 1,

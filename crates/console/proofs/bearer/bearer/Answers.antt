@@ -24,16 +24,16 @@ pub returns-in-Break-code : need.returns-in-Break-code
 returns-in-Break-code c =
     c .from-residual .ensures
     ∙ no-code (c .args .word .now) _ (c .colon-at .ensures .place)
-    (before (c .args .word .now) (c .colon-at .result) (c .from .result) _ (c .from .ensures) (c .in-Break-code .ensures tt))
+    (before (c .args .word .now) (c .colon-at .result) (c .from .result) _ (c .from .ensures) (c .in-Break-code .ensures tt .is-the-number-of-the-word))
 
 pub returns-in-Break-weight : need.returns-in-Break-weight
 returns-in-Break-weight c =
     c .from-residual-in-Break-weight .ensures
     ∙ no-weight (c .args .word .now) _ (c .colon-at .ensures .place)
-    (after (c .args .word .now) (c .colon-at .result) _ (c .in-Break-weight .ensures tt))
+    (after (c .args .word .now) (c .colon-at .result) _ (c .in-Break-weight .ensures tt .is-the-number-of-the-word))
 
 pub returns : need.returns
 returns c =
     made-of (c .args .word .now) _ (c .colon-at .ensures .place) (Some (c .in-Continue-code .code)) (Some (c .in-Continue-weight .weight))
-    (before (c .args .word .now) (c .colon-at .result) (c .from .result) _ (c .from .ensures) (c .in-Continue-code .ensures tt))
-    (after (c .args .word .now) (c .colon-at .result) _ (c .in-Continue-weight .ensures tt))
+    (before (c .args .word .now) (c .colon-at .result) (c .from .result) _ (c .from .ensures) (c .in-Continue-code .ensures tt .is-the-number-of-the-word))
+    (after (c .args .word .now) (c .colon-at .result) _ (c .in-Continue-weight .ensures tt .is-the-number-of-the-word))

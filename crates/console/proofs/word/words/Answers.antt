@@ -15,9 +15,11 @@ loop-b-again c =
     ]
 
 pub returns : need.returns
-returns c =
-    c .in-Continue-end-word-2 .ensures tt .found-after ∙
-    elim (c .loop-b-test .came) [
-      | else-loop-b-test w ↦ at-end _ _ _ _ _ (c .loop-b .inv) (w .loop-b-test .left)
-      | then-loop-b-test·then-b-eq35 w ↦ at-comment _ _ _ _ _ (c .loop-b .inv) (w .loop-b-test .taken) (w .if-b-eq35 .taken)
-    ]
+returns c = record {
+  gives-the-words-of-the-line =
+      c .in-Continue-end-word-2 .ensures tt .found-after ∙
+      elim (c .loop-b-test .came) [
+        | else-loop-b-test w ↦ at-end _ _ _ _ _ (c .loop-b .inv) (w .loop-b-test .left)
+        | then-loop-b-test·then-b-eq35 w ↦ at-comment _ _ _ _ _ (c .loop-b .inv) (w .loop-b-test .taken) (w .if-b-eq35 .taken)
+      ];
+}

@@ -8,7 +8,7 @@ use Rattle.split.proofs.limits.bearing.Needs as need
 pub loop-bearer-again : need.loop-bearer-again
 loop-bearer-again g c =
     counted-more (λ x. eqb (g .B·Bearer .bears x .code) (c .args .code)) (c .args .bearers .now) (c .loop-bearer .bearer-index) (c .loop-bearer .count) (c .from-count .result) (c .bearer-item .result) _
-    (c .loop-bearer-test .taken) (c .bearer-item .is) (c .loop-bearer .inv) (c .from-count .ensures) (ap (λ n. eqb n (c .args .code)) (c .code .ensures))
+    (c .loop-bearer-test .taken) (c .bearer-item .is) (c .loop-bearer .inv) (c .from-count .ensures) (ap (λ n. eqb n (c .args .code)) (c .code .ensures .is-the-code-it-bears))
 
 pub returns : need.returns
 returns g c =

@@ -8,7 +8,7 @@ use Rattle.split.proofs.limits.heavy.Needs as need
 pub loop-bearer-again : need.loop-bearer-again
 loop-bearer-again g c =
     counted-more (λ x. ltb 9000000000 (g .B·Bearer .bears x .weight)) (c .args .bearers .now) (c .loop-bearer .bearer-index) (c .loop-bearer .count) (c .from-count .result) (c .bearer-item .result) _
-    (c .loop-bearer-test .taken) (c .bearer-item .is) (c .loop-bearer .inv) (c .from-count .ensures) (ap (λ n. ltb 9000000000 n) (c .weight .ensures))
+    (c .loop-bearer-test .taken) (c .bearer-item .is) (c .loop-bearer .inv) (c .from-count .ensures) (ap (λ n. ltb 9000000000 n) (c .weight .ensures .is-the-weight-it-bears))
 
 pub returns : need.returns
 returns g c =

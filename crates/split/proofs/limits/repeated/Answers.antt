@@ -10,7 +10,7 @@ use Rattle.split.proofs.limits.repeated.Needs as need
 pub loop-bearer-again : need.loop-bearer-again
 loop-bearer-again g c =
     counted-more (λ x. ltb 1 (with-code (g .B·Bearer .bears x .code) (map (g .B·Bearer .bears) (c .args .bearers .now)))) (c .args .bearers .now) (c .loop-bearer .bearer-index) (c .loop-bearer .count) (c .from-count .result) (c .bearer-item .result) _
-    (c .loop-bearer-test .taken) (c .bearer-item .is) (c .loop-bearer .inv) (c .from-count .ensures) (ap (λ n. ltb 1 n) (c .bearing .ensures ∙ ap (λ n. with-code n (map (g .B·Bearer .bears) (c .args .bearers .now))) (c .code .ensures)))
+    (c .loop-bearer-test .taken) (c .bearer-item .is) (c .loop-bearer .inv) (c .from-count .ensures) (ap (λ n. ltb 1 n) (c .bearing .ensures ∙ ap (λ n. with-code n (map (g .B·Bearer .bears) (c .args .bearers .now))) (c .code .ensures .is-the-code-it-bears)))
 
 pub returns : need.returns
 returns g c =

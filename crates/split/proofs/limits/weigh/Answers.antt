@@ -13,13 +13,13 @@ add-total g c =
       c .pre,
       sumBy-map (λ (x : Stake). x .weight) (g .B·Bearer .bears) (c .args .bearers .now),
       added-within (λ x. g .B·Bearer .bears x .weight) (c .args .bearers .now) (c .loop-bearer .bearer-index) (c .loop-bearer .total) (c .weight-total .result) (c .bearer-item .result)
-          (c .loop-bearer-test .taken) (c .bearer-item .is) (c .loop-bearer .inv) (c .weight-total .ensures),
+          (c .loop-bearer-test .taken) (c .bearer-item .is) (c .loop-bearer .inv) (c .weight-total .ensures .is-the-weight-it-bears),
     )
 
 pub loop-bearer-again : need.loop-bearer-again
 loop-bearer-again g c =
     added-more (λ x. g .B·Bearer .bears x .weight) (c .args .bearers .now) (c .loop-bearer .bearer-index) (c .loop-bearer .total) (c .weight-total .result) (c .bearer-item .result)
-    (c .loop-bearer-test .taken) (c .bearer-item .is) (c .loop-bearer .inv) (c .weight-total .ensures)
+    (c .loop-bearer-test .taken) (c .bearer-item .is) (c .loop-bearer .inv) (c .weight-total .ensures .is-the-weight-it-bears)
 
 pub returns : need.returns
 unfolding all-weights

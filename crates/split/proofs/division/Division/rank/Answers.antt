@@ -7,8 +7,8 @@ use Rattle.split.proofs.division.Division.rank.Needs as need
 pub loop-other-again : need.loop-other-again
 loop-other-again c =
     counted-more (λ e. precedes e (c .args .self .now)) (c .args .row .now) (c .loop-other .other-index) (c .loop-other .count) (c .from-count .result) (getD (c .args .row .now) (c .loop-other .other-index) _) _
-    (c .loop-other-test .taken) (getD-default (c .args .row .now) (c .loop-other .other-index) _ _ (c .loop-other-test .taken)) (c .loop-other .inv) (c .from-count .ensures) (c .precedes .ensures)
+    (c .loop-other-test .taken) (getD-default (c .args .row .now) (c .loop-other .other-index) _ _ (c .loop-other-test .taken)) (c .loop-other .inv) (c .from-count .ensures) (c .precedes .ensures .larger-remainder-then-lower-code)
 
 pub returns : need.returns
 unfolding rank
-returns c = counted-all (λ e. precedes e (c .args .self .now)) (c .args .row .now) (c .loop-other .other-index) (c .loop-other .count) (c .loop-other-test .left) (c .loop-other .inv)
+returns c = record { counts-those-before = counted-all (λ e. precedes e (c .args .self .now)) (c .args .row .now) (c .loop-other .other-index) (c .loop-other .count) (c .loop-other-test .left) (c .loop-other .inv) }
