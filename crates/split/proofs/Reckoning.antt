@@ -14,7 +14,7 @@ use Rattle.split.specs.declared.reason.Reason.{Reason}
 use Rattle.split.specs.Reasons.{reason, reasons, reckon}
 use Rattle.split.specs.Shares.{divide, divisions, all-weights, odd-dollars, share, shares}
 use Rattle.split.proofs.Blanks.{blank-division}
-use Rattle.split.proofs.Quotients.{wholes, wholes-within}
+use Rattle.split.proofs.Quotients.{wholes}
 use Rattle.split.proofs.Rows.{map-map}
 
 -- the part of the table that was written is the row of divisions
@@ -24,11 +24,11 @@ row-is sum total n xs table rest many weighs written =
     ∙ take-at (map (divide sum total) xs) rest (n - 0) (length-map xs (divide sum total) ∙ omega arith)
     ∙ ap (λ t. map (divide sum t) xs) weighs
 
--- no whole part is above the sum
-pub wholes-small : (sum : ℕ) (xs : List Stake) (most : ℕ) → sum ≤ most → All (λ d. d .whole ≤ most) (divisions sum xs)
-wholes-small sum xs most small =
-    all-from-getD (λ d. d .whole ≤ most) (divisions sum xs) blank-division
-    (λ i within. omega (arith, small, wholes-within sum xs, getD-le-sumBy (λ (d : Division). d .whole) (divisions sum xs) i blank-division within))
+-- no whole part is above all of them
+pub wholes-small : (row : List Division) (most : ℕ) → wholes row ≤ most → All (λ d. d .whole ≤ most) row
+wholes-small row most small =
+    all-from-getD (λ d. d .whole ≤ most) row blank-division
+    (λ i within. omega (arith, small, getD-le-sumBy (λ (d : Division). d .whole) row i blank-division within))
 
 -- what is reckoned of each division is the reason of each bearer
 pub reasons-are : (sum total odd : ℕ) (xs : List Stake) → total ≡ all-weights xs → odd ≡ odd-dollars sum (divisions sum xs) → map (reckon total odd (divisions sum xs)) (divisions sum xs) ≡ reasons sum xs
@@ -47,14 +47,12 @@ pub divisions-long : (sum : ℕ) (xs : List Stake) → length (divisions sum xs)
 divisions-long sum xs = length-map xs (divide sum (all-weights xs))
 
 -- what was written, from the row on which it was reckoned
-pub explained : (sum total odd placed : ℕ) (xs : List Stake) (row : List Division) (new old : List Reason) → row ≡ divisions sum xs → total ≡ all-weights xs → placed ≡ wholes row → odd ≡ sum - placed →
-    new ≡ map (reckon total odd row) row ++ drop (length row) old → new ≡ reasons sum xs ++ drop (length (reasons sum xs)) old
-unfolding odd-dollars
-explained sum total odd placed xs row new old is weighs parts left written =
-    let own : odd ≡ odd-dollars sum (divisions sum xs) = left ∙ ap (λ n. sum - n) (parts ∙ ap wholes is) in
+pub explained : (sum total : ℕ) (xs : List Stake) (row : List Division) (new old : List Reason) → row ≡ divisions sum xs → total ≡ all-weights xs →
+    new ≡ map (reckon total (odd-dollars sum row) row) row ++ drop (length row) old → new ≡ reasons sum xs ++ drop (length (reasons sum xs)) old
+explained sum total xs row new old is weighs written =
     written
-    ∙ ap (λ l. map (reckon total odd l) l ++ drop (length l) old) is
-    ∙ ap (λ l. l ++ drop (length (divisions sum xs)) old) (reasons-are sum total odd xs weighs own)
+    ∙ ap (λ l. map (reckon total (odd-dollars sum l) l) l ++ drop (length l) old) is
+    ∙ ap (λ l. l ++ drop (length (divisions sum xs)) old) (reasons-are sum total (odd-dollars sum (divisions sum xs)) xs weighs refl)
     ∙ ap (λ n. reasons sum xs ++ drop n old) (divisions-long sum xs ∙ sym (length-map xs (reason sum xs)))
 
 -- the shares that were copied out of the reasons are the shares of the row

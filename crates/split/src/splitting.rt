@@ -5,9 +5,10 @@ ghost use Prim.Native.Nat.{_≤_};
 ghost use lib.ListN.{length, drop};
 ghost use Rattle.std.specs.Vec.{made};
 ghost use Rattle.split.specs.Laws.{Fair-shares, Same-in-any-order};
-ghost use Rattle.split.specs.Reasons.{reasons as reasons-of};
+ghost use Rattle.std.specs.shelf.Lists.{sumBy};
+ghost use Rattle.split.specs.Reasons.{reckon, reasons as reasons-of};
 ghost use Rattle.split.specs.Refusals.{answer, placed};
-ghost use Rattle.split.specs.Shares.{shares as shares-of};
+ghost use Rattle.split.specs.Shares.{odd-dollars, shares as shares-of};
 use crate::bearer::Bearer;
 use crate::division::Division;
 use crate::division::divide_all;
@@ -18,6 +19,17 @@ use crate::reason::Reason;
 use crate::reason::reckon_all;
 use crate::refusal::Refusal;
 
+// The reasons of a row of divisions: the odd dollars are what their whole parts leave of the sum.
+fn reckon_row(sum: u64, total: u64, row: &[Division], reasons: &mut [Reason])
+    requires small { ⌜ sum ≤ 1000000000 ⌝ }
+    requires within { ⌜ sumBy (λ d. d .whole) (now row) ≤ sum ⌝ }
+    requires room { ⌜ length (now row) ≤ length (now reasons) ⌝ }
+    ensures { λ _. ⌜ now (reasons .exit) ≡ map (reckon total (odd-dollars sum (now (row .entry))) (now (row .entry))) (now (row .entry)) ++ drop (length (now (row .entry))) (now (reasons .entry)) ⌝ }
+{
+    let odd = sum - whole_parts(row);
+    reckon_all(total, odd, row, reasons);
+}
+
 // Why each bearer gets its share of the sum. Refused as `split` is, by the number of places that are lent.
 pub fn explain<B: Bearer>(sum: u64, bearers: &[B], reasons: &mut [Reason]) -> Result<(), Refusal>
     ensures answers_as_defined { λ r. ⌜ r ≡ answer sum (length (now (reasons .entry))) (map bears (now (bearers .entry))) ⌝ }
@@ -27,9 +39,7 @@ pub fn explain<B: Bearer>(sum: u64, bearers: &[B], reasons: &mut [Reason]) -> Re
     let total = tested(sum, reasons.len(), bearers)?;
     let mut table = [Division::BLANK; MOST_BEARERS];
     divide_all(sum, total, bearers, &mut table);
-    let row = &table[0..bearers.len()];
-    let odd = sum - whole_parts(row);
-    reckon_all(total, odd, row, reasons);
+    reckon_row(sum, total, &table[0..bearers.len()], reasons);
     Ok(())
 }
 

@@ -1,15 +1,15 @@
-use mathlib.Core.Path.{refl, sym, ap, subst}
+use mathlib.Core.Path.{sym, ap}
 use mathlib.Core.List.{map}
 use Prim.Native.Nat.{_-_, _≤_}
 use native.Mathlib.Omega.{arith}
 use borrow.Author.Needs.{needs}
 use lib.ListN.{length, take}
-use Rattle.std.specs.shelf.Lists.{All, sumBy}
+use Rattle.std.specs.shelf.Lists.{sumBy}
 use Rattle.std.proofs.shelf.Lists.{length-map}
 use Rattle.split.specs.declared.division.Division.{Division}
 use Rattle.split.proofs.Accepting.{accepted}
 use Rattle.split.proofs.Quotients.{wholes-within}
-use Rattle.split.proofs.Reckoning.{row-is, wholes-small, divisions-long, explained, shares-are}
+use Rattle.split.proofs.Reckoning.{row-is, divisions-long, explained, shares-are}
 use Rattle.split.proofs.splitting.explain.Needs as need
 
 pub divide-all-requires : need.divide-all-requires
@@ -18,33 +18,21 @@ divide-all-requires g c κs =
     let ok = accepted (c .args .sum) (length (c .args .reasons .now)) stakes (sym (c .in-Continue-total .ensures tt .answers)) in
     record { small = ok .small; light = ok .light; room = omega (arith, ok .few, length-map (c .args .bearers .now) (g .B·Bearer .bears)) }
 
-pub part-row-end : need.part-row-end
-part-row-end g c =
+pub part-reckon-row-end : need.part-reckon-row-end
+part-reckon-row-end g c =
     let stakes = map (g .B·Bearer .bears) (c .args .bearers .now) in
     let ok = accepted (c .args .sum) (length (c .args .reasons .now)) stakes (sym (c .in-Continue-total .ensures tt .answers)) in
     let few : length (c .args .bearers .now) ≤ 128 = omega (arith, ok .few, length-map (c .args .bearers .now) (g .B·Bearer .bears)) in
     search needs
 
-pub whole-parts-requires : need.whole-parts-requires
-whole-parts-requires g c κs =
-    let stakes = map (g .B·Bearer .bears) (c .args .bearers .now) in
-    let ok = accepted (c .args .sum) (length (c .args .reasons .now)) stakes (sym (c .in-Continue-total .ensures tt .answers)) in
-    let row = row-is (c .args .sum) (c .in-Continue-total .total) (length (c .args .bearers .now)) stakes (c .divide-all .last .table) _ (sym (length-map (c .args .bearers .now) (g .B·Bearer .bears))) (c .in-Continue-total .ensures tt .weighs) (c .divide-all .ensures) in
-    omega (arith, ap (sumBy (λ (d : Division). d .whole)) row, wholes-within (c .args .sum) stakes, ok .small)
-
-pub sub-odd : need.sub-odd
-sub-odd g c =
-    let stakes = map (g .B·Bearer .bears) (c .args .bearers .now) in
-    let row = row-is (c .args .sum) (c .in-Continue-total .total) (length (c .args .bearers .now)) stakes (c .divide-all .last .table) _ (sym (length-map (c .args .bearers .now) (g .B·Bearer .bears))) (c .in-Continue-total .ensures tt .weighs) (c .divide-all .ensures) in
-    omega (arith, ap (sumBy (λ (d : Division). d .whole)) row, wholes-within (c .args .sum) stakes, c .whole-parts .ensures)
-
-pub reckon-all-requires : need.reckon-all-requires
-reckon-all-requires g c κs =
+pub reckon-row-requires : need.reckon-row-requires
+reckon-row-requires g c κs =
     let stakes = map (g .B·Bearer .bears) (c .args .bearers .now) in
     let ok = accepted (c .args .sum) (length (c .args .reasons .now)) stakes (sym (c .in-Continue-total .ensures tt .answers)) in
     let row = row-is (c .args .sum) (c .in-Continue-total .total) (length (c .args .bearers .now)) stakes (c .divide-all .last .table) _ (sym (length-map (c .args .bearers .now) (g .B·Bearer .bears))) (c .in-Continue-total .ensures tt .weighs) (c .divide-all .ensures) in
     record {
-      light = subst (λ l. All (λ (d : Division). d .whole ≤ 1000000000) l) (sym row) (wholes-small (c .args .sum) stakes 1000000000 (ok .small));
+      small = ok .small;
+      within = omega (arith, ap (sumBy (λ (d : Division). d .whole)) row, wholes-within (c .args .sum) stakes);
       room = omega (arith, ap length row, divisions-long (c .args .sum) stakes, ok .room);
     }
 
@@ -54,8 +42,8 @@ returns g c =
     let row = row-is (c .args .sum) (c .in-Continue-total .total) (length (c .args .bearers .now)) stakes (c .divide-all .last .table) _ (sym (length-map (c .args .bearers .now) (g .B·Bearer .bears))) (c .in-Continue-total .ensures tt .weighs) (c .divide-all .ensures) in
     record {
       answers-as-defined = c .in-Continue-total .ensures tt .answers;
-      places-as-defined = explained (c .args .sum) (c .in-Continue-total .total) (c .args .sum - c .whole-parts .result) (c .whole-parts .result) stakes (take (length (c .args .bearers .now) - 0) (c .divide-all .last .table)) (c .reckon-all .last .reasons) (c .args .reasons .now)
-          row (c .in-Continue-total .ensures tt .weighs) (c .whole-parts .ensures) refl (c .reckon-all .ensures);
+      places-as-defined = explained (c .args .sum) (c .in-Continue-total .total) stakes (take (length (c .args .bearers .now) - 0) (c .divide-all .last .table)) (c .reckon-row .last .reasons) (c .args .reasons .now)
+          row (c .in-Continue-total .ensures tt .weighs) (c .reckon-row .ensures);
       reasons-end-in-the-shares = shares-are (c .args .sum) stakes;
     }
 
