@@ -2,7 +2,6 @@
 ghost use mathlib.Core.Path.{_≡_};
 ghost use mathlib.Core.List.{map};
 ghost use Prim.Native.Nat.{_≤_};
-ghost use lib.ListN.{length};
 ghost use Rattle.std.specs.Results.{mapped as told};
 ghost use Rattle.std.specs.Vec.{made};
 ghost use Rattle.split.specs.Refusals.{answer, too-heavy, with-code, repeated as repeats};
