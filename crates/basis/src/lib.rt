@@ -1,4 +1,6 @@
 // What a participant weighs, what its ceiling is, and whether overnight losses are carried.
+#![tactic(auto)]
+
 mod basis;
 mod commitment;
 

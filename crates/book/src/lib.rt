@@ -1,4 +1,6 @@
 // The book: a clearing house opens it before trading, and tells it what happens on a bad day.
+#![tactic(auto)]
+
 mod checks;
 mod fault;
 mod opening;

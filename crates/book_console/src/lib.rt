@@ -1,4 +1,6 @@
 // The console of the allocation book: it does what a line tells, and answers it.
+#![tactic(auto)]
+
 mod answer;
 mod desk;
 mod funds;

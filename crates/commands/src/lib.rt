@@ -1,4 +1,6 @@
 // The commands of the allocation book: what a line of bytes tells.
+#![tactic(auto)]
+
 mod bearer;
 mod command;
 mod hex;

@@ -1,4 +1,6 @@
 // The console of the allocation book: it reads a line, does what it tells, and answers it.
+#![tactic(auto)]
+
 mod answer;
 mod bearer;
 mod command;

@@ -1,4 +1,6 @@
 // The figures reckoned by hand, as one theorem about the definitions.
+#![tactic(auto)]
+
 ghost use Rattle.figures.specs.Figures.{WorkedFigures};
 
 // Carries the theorem: the definitions give every worked figure.

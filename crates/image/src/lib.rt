@@ -1,4 +1,6 @@
 // The roll's image: from its bytes to its records. Nothing here knows what a field may hold.
+#![tactic(auto)]
+
 mod access;
 mod fault;
 mod number;

@@ -1,4 +1,6 @@
 // The allocation book over thousands of commands about images, whose answers came from the second program.
+#![tactic(auto)]
+
 use std::io;
 
 fn main(rt: HostRuntime) -> io::Result<()> {

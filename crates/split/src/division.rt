@@ -51,8 +51,8 @@ impl Division {
 // One bearer's division. Where there is no weight at all the sum is 0, and so are both parts.
 fn divide<B: Bearer>(sum: u64, total: u64, bearer: &B) -> Division
     requires small { sum ≤ 1000000000 }
-    requires light { (bears bearer.now).weight ≤ 9000000000 }
-    ensures { result ≡ division_of sum total (bears bearer.now) }
+    requires light { (B.bears bearer.now).weight ≤ 9000000000 }
+    ensures { result ≡ division_of sum total (B.bears bearer.now) }
 {
     let code = bearer.code();
     let weight = bearer.weight();
@@ -70,9 +70,9 @@ fn divide<B: Bearer>(sum: u64, total: u64, bearer: &B) -> Division
 // Every bearer's division, one for each place from the first on; spare places stay.
 pub(crate) fn divide_all<B: Bearer>(sum: u64, total: u64, bearers: &[B], table: &mut [Division])
     requires small { sum ≤ 1000000000 }
-    requires light { too_heavy (map bears bearers.now) ≡ 0 }
+    requires light { too_heavy (map B.bears bearers.now) ≡ 0 }
     requires room { length bearers.now ≤ length table.old }
-    ensures { table.new ≡ map (division_of sum total) (map bears bearers.now) ++ drop (length bearers.now) table.old }
+    ensures { table.new ≡ map (division_of sum total) (map B.bears bearers.now) ++ drop (length bearers.now) table.old }
 {
     for i in 0..bearers.len() {
         table[i] = divide(sum, total, &bearers[i]);

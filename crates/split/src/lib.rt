@@ -1,4 +1,6 @@
 // Splitting a sum among bearers: the one splitting that serves every kind of bearer.
+#![tactic(auto)]
+
 mod bearer;
 mod division;
 mod limits;

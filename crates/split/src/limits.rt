@@ -16,7 +16,7 @@ pub(crate) const MOST_BEARERS: usize = 128;
 
 // How many bearers weigh more than the limit.
 fn heavy<B: Bearer>(bearers: &[B]) -> usize
-    ensures { result ≡ too_heavy (map bears bearers.now) }
+    ensures { result ≡ too_heavy (map B.bears bearers.now) }
 {
     let mut count = 0;
     for bearer in bearers {
@@ -27,7 +27,7 @@ fn heavy<B: Bearer>(bearers: &[B]) -> usize
 
 // How many bearers have this code.
 fn bearing<B: Bearer>(code: u32, bearers: &[B]) -> usize
-    ensures { result ≡ with_code code (map bears bearers.now) }
+    ensures { result ≡ with_code code (map B.bears bearers.now) }
 {
     let mut count = 0;
     for bearer in bearers {
@@ -38,7 +38,7 @@ fn bearing<B: Bearer>(code: u32, bearers: &[B]) -> usize
 
 // How many bearers share their code with another.
 fn repeated<B: Bearer>(bearers: &[B]) -> usize
-    ensures { result ≡ repeats (map bears bearers.now) }
+    ensures { result ≡ repeats (map B.bears bearers.now) }
 {
     let mut count = 0;
     for bearer in bearers {
@@ -49,8 +49,8 @@ fn repeated<B: Bearer>(bearers: &[B]) -> usize
 
 // All the weights together, where they are known to be few and small.
 fn weigh<B: Bearer>(bearers: &[B]) -> u64
-    requires { all_weights (map bears bearers.now) ≤ 1152000000000 }
-    ensures { result ≡ all_weights (map bears bearers.now) }
+    requires { all_weights (map B.bears bearers.now) ≤ 1152000000000 }
+    ensures { result ≡ all_weights (map B.bears bearers.now) }
 {
     let mut total = 0;
     for bearer in bearers {
@@ -61,8 +61,8 @@ fn weigh<B: Bearer>(bearers: &[B]) -> u64
 
 // Tests what a split asks, in the order of the refusals, and answers all the weights together.
 pub(crate) fn tested<B: Bearer>(sum: u64, places: usize, bearers: &[B]) -> Result<u64, Refusal>
-    ensures answers { told (λ _. tt) (λ e. e) result ≡ answer sum places (map bears bearers.now) }
-    ensures weighs { IfOk result (λ total. total ≡ all_weights (map bears bearers.now)) }
+    ensures answers { told (λ _. tt) (λ e. e) result ≡ answer sum places (map B.bears bearers.now) }
+    ensures weighs { IfOk result (λ total. total ≡ all_weights (map B.bears bearers.now)) }
 {
     if sum > SUM_LIMIT {
         return Err(Refusal::Limit);

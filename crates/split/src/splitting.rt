@@ -24,9 +24,9 @@ fn reckon_row(sum: u64, total: u64, row: &[Division], reasons: &mut [Reason])
 
 // Why each bearer gets its share of the sum. Refused as `split` is, by the number of places that are lent.
 pub fn explain<B: Bearer>(sum: u64, bearers: &[B], reasons: &mut [Reason]) -> Result<(), Refusal>
-    ensures answers_as_defined { result ≡ answer sum (length reasons.old) (map bears bearers.now) }
-    ensures places_as_defined { reasons.new ≡ placed result (reasons_of sum (map bears bearers.now)) reasons.old }
-    ensures reasons_end_in_the_shares { map (λ reason. reason.share) (reasons_of sum (map bears bearers.now)) ≡ shares_of sum (map bears bearers.now) }
+    ensures answers_as_defined { result ≡ answer sum (length reasons.old) (map B.bears bearers.now) }
+    ensures places_as_defined { reasons.new ≡ placed result (reasons_of sum (map B.bears bearers.now)) reasons.old }
+    ensures reasons_end_in_the_shares { map (λ reason. reason.share) (reasons_of sum (map B.bears bearers.now)) ≡ shares_of sum (map B.bears bearers.now) }
 {
     let total = tested(sum, reasons.len(), bearers)?;
     let mut table = [Division::BLANK; MOST_BEARERS];
@@ -47,10 +47,10 @@ fn share_out(reasons: &[Reason], shares: &mut [u64])
 
 // Splits the sum among the bearers in proportion to their weights, one share for each place from the first on.
 pub fn split<B: Bearer>(sum: u64, bearers: &[B], shares: &mut [u64]) -> Result<(), Refusal>
-    ensures answers_as_defined { result ≡ answer sum (length shares.old) (map bears bearers.now) }
-    ensures places_as_defined { shares.new ≡ placed result (shares_of sum (map bears bearers.now)) shares.old }
-    ensures fair_shares { OnOk result (FairShares sum (map bears bearers.now) shares.new) }
-    ensures same_in_any_order { SameInAnyOrder sum (length shares.old) (map bears bearers.now) }
+    ensures answers_as_defined { result ≡ answer sum (length shares.old) (map B.bears bearers.now) }
+    ensures places_as_defined { shares.new ≡ placed result (shares_of sum (map B.bears bearers.now)) shares.old }
+    ensures fair_shares { OnOk result (FairShares sum (map B.bears bearers.now) shares.new) }
+    ensures same_in_any_order { SameInAnyOrder sum (length shares.old) (map B.bears bearers.now) }
 {
     if shares.len() < bearers.len() {
         return Err(Refusal::Limit);

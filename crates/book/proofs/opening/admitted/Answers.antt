@@ -6,9 +6,9 @@ use Rattle.book.proofs.opening.admitted.Goals as goal
 
 pub returns : goal.returns
 returns c =
-    let s = standing c.in-ok-roll.roll in
-    let read = c.in-ok-roll.ensures in
-    let checked = c.in-ok-checked.ensures in
+    let s = standing c.in_ok-roll.roll in
+    let read = c.in_ok-roll.ensures in
+    let checked = c.in_ok-checked.ensures in
     record {
       decides = ap (λ r. and_then r (Ok s)) checked ∙ ap opened read.reads_as_defined;
       exact = read.records_have_the_bytes_read;

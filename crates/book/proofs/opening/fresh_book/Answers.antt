@@ -5,8 +5,8 @@ use Rattle.book.proofs.Fresh.{fresh_stakes, stands_fresh}
 use Rattle.book.proofs.opening.fresh_book.Goals as goal
 
 -- what a book always keeps, in the order of its ghost fields
-pub invariant-of-result : goal.invariant-of-result
-invariant-of-result g c =
+pub invariant_of-result : goal.invariant_of-result
+invariant_of-result g c =
     let s = standing c.args.roll in
     let h = c.requires.holdable in (
       refl,

@@ -5,14 +5,14 @@ use Rattle.book_console.specs.Lines.{share_lines}
 use Rattle.book_console.proofs.Saying.{one_each, said_plainly}
 use Rattle.book_console.proofs.answer.answer_plainly.Goals as goal
 
-pub print-shares-requires : goal.print-shares-requires
-print-shares-requires c =
-    one_each c.args.sum c.args.bearers.now (answer c.args.sum (length c.args.bearers.now) c.args.bearers.now) (vec_items c.in-Ok.shares) (sym (ap (result_map_both vec_items (λ refusal. refusal)) c.in-Ok.is) ∙ c.in-ok-outcome.ensures)
-    ∙ sym (ap length c.as-slice.ensures.value)
+pub print_shares-requires : goal.print_shares-requires
+print_shares-requires c =
+    one_each c.args.sum c.args.bearers.now (answer c.args.sum (length c.args.bearers.now) c.args.bearers.now) (vec_items c.in-Ok.shares) (sym (ap (result_map_both vec_items (λ refusal. refusal)) c.in-Ok.is) ∙ c.in_ok-outcome.ensures)
+    ∙ sym (ap length c.as_slice.ensures.value)
 
-pub returns-in-ok-print-shares : goal.returns-in-ok-print-shares
-returns-in-ok-print-shares c =
+pub returns-in_ok-print_shares : goal.returns-in_ok-print_shares
+returns-in_ok-print_shares c =
     let xs = c.args.bearers.now in
-    c.in-ok-print-shares.ensures
-    ∙ ap (λ v. string_bytes c.args.out.now ++ share_lines xs v) c.as-slice.ensures.value
-    ∙ ap (λ l. string_bytes c.args.out.now ++ l) (said_plainly c.args.sum xs (answer c.args.sum (length xs) xs) (vec_items c.in-Ok.shares) (sym (ap (result_map_both vec_items (λ refusal. refusal)) c.in-Ok.is) ∙ c.in-ok-outcome.ensures))
+    c.in_ok-print_shares.ensures
+    ∙ ap (λ v. string_bytes c.args.out.now ++ share_lines xs v) c.as_slice.ensures.value
+    ∙ ap (λ l. string_bytes c.args.out.now ++ l) (said_plainly c.args.sum xs (answer c.args.sum (length xs) xs) (vec_items c.in-Ok.shares) (sym (ap (result_map_both vec_items (λ refusal. refusal)) c.in-Ok.is) ∙ c.in_ok-outcome.ensures))

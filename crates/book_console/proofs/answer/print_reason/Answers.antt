@@ -10,4 +10,4 @@ appended before a b c one two three last p q r s = rw (r, q, p, s) (simp append_
 pub returns : goal.returns
 returns c =
     appended (string_bytes c.args.out.now) (division_part c.args.sum c.args.reason.now) (rank_part c.args.reason.now) (gets_part c.args.reason.now.extra) _ _ _ c.gets.result.now
-    c.in-ok-print-division.ensures c.in-ok-print-rank.ensures c.in-ok-push-str.ensures.bytes c.gets.ensures
+    c.in_ok-print_division.ensures c.in_ok-print_rank.ensures c.in_ok-push_str.ensures.bytes c.gets.ensures

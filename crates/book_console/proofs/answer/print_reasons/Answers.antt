@@ -9,8 +9,8 @@ pub loop-i-preserved : goal.loop-i-preserved
 loop-i-preserved c =
     let i = c.loop-i.i in
     let row = c.args.reasons.now in
-    line_more (explained_line c.args.sum) row i (string_bytes c.loop-i.out) (string_bytes c.print-explained.new.out) _ (get_or row i blank_reason)
-    c.loop-i-test.true (get_or_default row i blank_reason (get_or row i blank_reason) c.loop-i-test.true) c.in-ok-print-explained.ensures c.loop-i.invariant
+    line_more (explained_line c.args.sum) row i (string_bytes c.loop-i.out) (string_bytes c.print_explained.new.out) _ (get_or row i blank_reason)
+    c.loop-i-test.true (get_or_default row i blank_reason (get_or row i blank_reason) c.loop-i-test.true) c.in_ok-print_explained.ensures c.loop-i.invariant
 
 pub returns : goal.returns
 returns c =

@@ -9,8 +9,8 @@ loop-i-preserved c =
     let i = c.loop-i.i in
     let row = c.args.bearers.now in
     let amounts = c.args.shares.now in
-    part_more (string_bytes c.loop-i.out) (string_bytes c.print-share.new.out) (string_bytes c.args.out.now ++ share_lines row amounts) (share_line (get_or row i blank_stake).code (get_or amounts i 0))
-    (share_lines (drop i row) (drop i amounts)) (share_lines (drop (i + 1) row) (drop (i + 1) amounts)) c.in-ok-print-share.ensures
+    part_more (string_bytes c.loop-i.out) (string_bytes c.print_share.new.out) (string_bytes c.args.out.now ++ share_lines row amounts) (share_line (get_or row i blank_stake).code (get_or amounts i 0))
+    (share_lines (drop i row) (drop i amounts)) (share_lines (drop (i + 1) row) (drop (i + 1) amounts)) c.in_ok-print_share.ensures
     (shares_more row amounts i blank_stake 0 c.loop-i-test.true (omega (arith, c.requires, c.loop-i-test.true))) c.loop-i.invariant
 
 pub returns : goal.returns

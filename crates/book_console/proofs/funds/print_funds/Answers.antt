@@ -8,8 +8,8 @@ use Rattle.book_console.proofs.funds.print_funds.Goals as goal
 
 pub loop-account-preserved : goal.loop-account-preserved
 loop-account-preserved c =
-    line_more (λ (a : Account). funds_line (balance_of a)) c.args.accounts.now c.loop-account.account-index (string_bytes c.loop-account.out) (string_bytes c.print-account.new.out) _ c.account-item.result
-    c.loop-account-test.true c.account-item.is c.in-ok-print-account.ensures c.loop-account.invariant
+    line_more (λ (a : Account). funds_line (balance_of a)) c.args.accounts.now c.loop-account.account-index (string_bytes c.loop-account.out) (string_bytes c.print_account.new.out) _ c.account-item.result
+    c.loop-account-test.true c.account-item.is c.in_ok-print_account.ensures c.loop-account.invariant
 
 pub returns : goal.returns
 returns c =

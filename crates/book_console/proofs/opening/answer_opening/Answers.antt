@@ -7,4 +7,4 @@ use Rattle.book_console.proofs.opening.answer_opening.Goals as goal
 pub returns : goal.returns
 returns c =
     twice (string_bytes c.args.out.now) (opening_line c.args.outcome.now) (check_line (check_value (opening c.args.image.now))) _ _
-    c.in-ok-print-outcome.ensures c.in-ok-print-check.ensures
+    c.in_ok-print_outcome.ensures c.in_ok-print_check.ensures

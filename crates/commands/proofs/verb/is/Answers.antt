@@ -7,4 +7,4 @@ use Rattle.commands.proofs.verb.is.Goals as goal
 pub returns : goal.returns
 returns c =
     same_from_decides c.eq.result _ (slice_eq-Decides Decides-eqb _ _ _ c.eq.ensures) (bytes_eq-Decides _ _)
-    ∙ ap (bytes_eq c.args.word.now) c.as-bytes.ensures.value
+    ∙ ap (bytes_eq c.args.word.now) c.as_bytes.ensures.value

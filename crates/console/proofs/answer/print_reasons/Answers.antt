@@ -10,8 +10,8 @@ pub loop-i-preserved : goal.loop-i-preserved
 loop-i-preserved c =
     let i = c.loop-i.i in
     let row = c.args.reasons.now in
-    part_more (string_bytes c.loop-i.out) (string_bytes c.print-explained.new.out) (string_bytes c.args.out.now ++ flat_map (explained_line c.args.sum) row) (explained_line c.args.sum (get_or row i blank_reason))
-    (flat_map (explained_line c.args.sum) (drop i row)) (flat_map (explained_line c.args.sum) (drop (i + 1) row)) c.in-ok-print-explained.ensures
+    part_more (string_bytes c.loop-i.out) (string_bytes c.print_explained.new.out) (string_bytes c.args.out.now ++ flat_map (explained_line c.args.sum) row) (explained_line c.args.sum (get_or row i blank_reason))
+    (flat_map (explained_line c.args.sum) (drop i row)) (flat_map (explained_line c.args.sum) (drop (i + 1) row)) c.in_ok-print_explained.ensures
     (lines_more (explained_line c.args.sum) row i (get_or row i blank_reason) c.loop-i-test.true (get_or_default row i blank_reason (get_or row i blank_reason) c.loop-i-test.true)) c.loop-i.invariant
 
 pub returns : goal.returns

@@ -9,10 +9,10 @@ returns-then-arguments-ne1 c = not_single vec_items c.args.arguments.now c.if-ar
 
 pub returns-in-Some : goal.returns-in-Some
 returns-in-Some c =
-    ap explains_if (c.in-Some.ensures ∙ ap switch_of c.as-slice.ensures.value)
+    ap explains_if (c.in-Some.ensures ∙ ap switch_of c.as_slice.ensures.value)
     ∙ single vec_items c.args.arguments.now _ c.if-arguments-ne1.false c.index-arguments-0.is
 
 pub returns-in-None : goal.returns-in-None
 returns-in-None c =
-    ap explains_if (c.in-None.ensures ∙ ap switch_of c.as-slice.ensures.value)
+    ap explains_if (c.in-None.ensures ∙ ap switch_of c.as_slice.ensures.value)
     ∙ single vec_items c.args.arguments.now _ c.if-arguments-ne1.false c.index-arguments-0.is

@@ -3,5 +3,5 @@ use Rattle.std.proofs.lemmas.List.{nil_from_length}
 use Rattle.console.specs.Readings.{told}
 use Rattle.console.proofs.command.read_words.Goals as goal
 
-pub returns-in-default : goal.returns-in-default
-returns-in-default c = ap (λ ws. told (map vec_items ws)) (sym (nil_from_length c.args.words.now c.in-default.ensures.cases))
+pub returns-in_default : goal.returns-in_default
+returns-in_default c = ap (λ ws. told (map vec_items ws)) (sym (nil_from_length c.args.words.now c.in_default.ensures.cases))

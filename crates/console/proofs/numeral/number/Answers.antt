@@ -6,21 +6,21 @@ use Rattle.console.proofs.numeral.number.Goals.{At-loop-b}
 
 -- The loop's digits come to the number of the word.
 whole : (c : At-loop-b) → up_to c.args.largest (value_after 0 c.unsigned-digits.result.now) ≡ number_of c.args.largest c.args.word.now
-whole c = some_digits _ c.args.word.now _ c.unsigned-digits.ensures (false-eqb _ 0 c.if-is-empty.ensures)
+whole c = some_digits _ c.args.word.now _ c.unsigned-digits.ensures (false-eqb _ 0 c.if-is_empty.ensures)
 
-pub returns-then-is-empty : goal.returns-then-is-empty
-returns-then-is-empty c = record { is_the_number_of_the_word = no_digits c.args.largest c.args.word.now _ c.unsigned-digits.ensures (true-eqb _ 0 c.if-is-empty.ensures) }
+pub returns-then-is_empty : goal.returns-then-is_empty
+returns-then-is_empty c = record { is_the_number_of_the_word = no_digits c.args.largest c.args.word.now _ c.unsigned-digits.ensures (true-eqb _ 0 c.if-is_empty.ensures) }
 
-pub returns-in-err-value : goal.returns-in-err-value
-returns-in-err-value c = record {
-  is_the_number_of_the_word = c.from-residual.ensures
-      ∙ (at_none _ _ _ _ _ c.loop-b.invariant.0 c.loop-b-test.true c.in-err-value.ensures
-      ∙ whole (goal.at.returns-in-err-value c).At-loop-b);
+pub returns-in_err-value : goal.returns-in_err-value
+returns-in_err-value c = record {
+  is_the_number_of_the_word = c.from_residual.ensures
+      ∙ (at_none _ _ _ _ _ c.loop-b.invariant.0 c.loop-b-test.true c.in_err-value.ensures
+      ∙ whole (goal.at.returns-in_err-value c).At-loop-b);
 }
 
 pub loop-b-preserved : goal.loop-b-preserved
 loop-b-preserved c =
-    let told = c.in-ok-value.ensures in
+    let told = c.in_ok-value.ensures in
     (at_more _ _ _ _ _ c.loop-b.invariant.0 _ c.loop-b-test.true told, within _ c.loop-b.value (get_or c.unsigned-digits.result.now c.loop-b.b-index 0) _ told)
 
 pub returns : goal.returns

@@ -11,12 +11,12 @@ roomy : (bytes : List ℕ) (i value : ℕ) → ((k : ℕ) → Fits w8 (get_or by
 roomy bytes i value fit few within is =
     omega (arith, number_below 7 (take i bytes) (All-take (λ b. b < 256) i bytes (bytes_under bytes fit)) (omega (arith, length-take i bytes)), is)
 
-pub overflow-mul-value : goal.overflow-mul-value
-overflow-mul-value c = omega (arith, roomy c.args.digits.now c.loop-digit.digit-index c.loop-digit.value c.type-inv.digits c.requires c.loop-digit-test.true c.loop-digit.invariant)
+pub overflow_mul-value : goal.overflow_mul-value
+overflow_mul-value c = omega (arith, roomy c.args.digits.now c.loop-digit.digit-index c.loop-digit.value c.type_inv.digits c.requires c.loop-digit-test.true c.loop-digit.invariant)
 
-pub overflow-add-value : goal.overflow-add-value
-overflow-add-value c =
-    omega (arith, roomy c.args.digits.now c.loop-digit.digit-index c.loop-digit.value c.type-inv.digits c.requires c.loop-digit-test.true c.loop-digit.invariant, c.type-inv.digits c.loop-digit.digit-index, c.from.ensures)
+pub overflow_add-value : goal.overflow_add-value
+overflow_add-value c =
+    omega (arith, roomy c.args.digits.now c.loop-digit.digit-index c.loop-digit.value c.type_inv.digits c.requires c.loop-digit-test.true c.loop-digit.invariant, c.type_inv.digits c.loop-digit.digit-index, c.from.ensures)
 
 pub loop-digit-preserved : goal.loop-digit-preserved
 loop-digit-preserved c = omega (arith, c.from.ensures, c.loop-digit.invariant, number_more 256 c.args.digits.now c.loop-digit.digit-index c.loop-digit-test.true)
@@ -24,4 +24,4 @@ loop-digit-preserved c = omega (arith, c.from.ensures, c.loop-digit.invariant, n
 pub returns : goal.returns
 returns c =
     let all = c.loop-digit.invariant ∙ ap (number_from_digits 256) (take_all c.loop-digit.digit-index c.args.digits.now c.loop-digit-test.false) in
-    record { value = all; fits = omega (arith, all, number_lt 256 c.args.digits.now (bytes_under c.args.digits.now c.type-inv.digits)) }
+    record { value = all; fits = omega (arith, all, number_lt 256 c.args.digits.now (bytes_under c.args.digits.now c.ok.digits)) }

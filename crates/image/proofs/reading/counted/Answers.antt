@@ -18,9 +18,9 @@ returns-then-bytes-lt-HEAD c =
     let fault : head_fault c.args.bytes.now ≡ Some Short = grind (arith, nat_tests) in
     sym (ap (λ o. unless o (counts_of c.args.bytes.now)) fault)
 
-pub returns-then-byte-at-ne-VERSION : goal.returns-then-byte-at-ne-VERSION
+pub returns-then-byte_at-ne-VERSION : goal.returns-then-byte_at-ne-VERSION
 unfolding head_fault
-returns-then-byte-at-ne-VERSION c =
+returns-then-byte_at-ne-VERSION c =
     let fault : head_fault c.args.bytes.now ≡ Some Version = grind (arith, nat_tests) in
     sym (ap (λ o. unless o (counts_of c.args.bytes.now)) fault)
 
@@ -30,9 +30,9 @@ returns-then-participants-lt1 c =
     let fault : head_fault c.args.bytes.now ≡ Some Participants = grind (arith, nat_tests) in
     sym (ap (λ o. unless o (counts_of c.args.bytes.now)) fault)
 
-pub returns-then-accounts-gt-MOST-ACCOUNTS : goal.returns-then-accounts-gt-MOST-ACCOUNTS
+pub returns-then-accounts-gt-MOST_ACCOUNTS : goal.returns-then-accounts-gt-MOST_ACCOUNTS
 unfolding head_fault
-returns-then-accounts-gt-MOST-ACCOUNTS c =
+returns-then-accounts-gt-MOST_ACCOUNTS c =
     let fault : head_fault c.args.bytes.now ≡ Some Accounts = grind (arith, nat_tests) in
     sym (ap (λ o. unless o (counts_of c.args.bytes.now)) fault)
 
@@ -46,5 +46,5 @@ pub returns : goal.returns
 unfolding head_fault
 returns c =
     let fault : head_fault c.args.bytes.now ≡ None = grind (arith, nat_tests) in
-    ap Ok (same_counts _ _ _ _ c.byte-at-participants.ensures c.byte-at-accounts.ensures)
+    ap Ok (same_counts _ _ _ _ c.byte_at-participants.ensures c.byte_at-accounts.ensures)
     ∙ ap (λ o. unless o (counts_of c.args.bytes.now)) (sym fault)

@@ -20,28 +20,28 @@ met bytes counts e =
     let p = unless_ok (head_fault bytes) (counts_of bytes) counts e in
     record { faultless = p.0; ok = headed bytes p.0; participants = ap (λ (k : Counts). k.participants) p.1; accounts = ap (λ (k : Counts). k.accounts) p.1 }
 
-pub read-participants-requires : goal.read-participants-requires
-read-participants-requires c =
-    let m = met c.args.bytes.now c.in-ok-counts.counts c.in-ok-counts.ensures in
+pub read_participants-requires : goal.read_participants-requires
+read_participants-requires c =
+    let m = met c.args.bytes.now c.in_ok-counts.counts c.in_ok-counts.ensures in
     record { long = omega arith; room = omega arith }
 
-pub read-accounts-requires : goal.read-accounts-requires
-read-accounts-requires c =
-    let m = met c.args.bytes.now c.in-ok-counts.counts c.in-ok-counts.ensures in
+pub read_accounts-requires : goal.read_accounts-requires
+read_accounts-requires c =
+    let m = met c.args.bytes.now c.in_ok-counts.counts c.in_ok-counts.ensures in
     record { long = omega arith; room = omega arith }
 
-pub invariant-of-result : goal.invariant-of-result
-invariant-of-result c =
-    let m = met c.args.bytes.now c.in-ok-counts.counts c.in-ok-counts.ensures in
+pub invariant_of-result : goal.invariant_of-result
+invariant_of-result c =
+    let m = met c.args.bytes.now c.in_ok-counts.counts c.in_ok-counts.ensures in
     (omega arith, (omega arith, tt))
 
 pub returns : goal.returns
 returns c =
     let bytes = c.args.bytes.now in
-    let m = met bytes c.in-ok-counts.counts c.in-ok-counts.ensures in
+    let m = met bytes c.in_ok-counts.counts c.in_ok-counts.ensures in
     let same = reads_the_records bytes _ _ _ m.participants m.accounts c.read_participants.ensures c.read_accounts.ensures in
     record {
       reads_as_defined = ap Ok same ∙ ap (λ o. unless o (records_at bytes)) (sym m.faultless);
-      records_have_the_bytes_read = ap bytes_of same ∙ records_have_the_bytes bytes (bytes_under bytes c.type-inv.bytes) m.ok;
+      records_have_the_bytes_read = ap bytes_of same ∙ records_have_the_bytes bytes (bytes_under bytes c.type_inv.bytes) m.ok;
       counts_are_within_limits = subst FewRecords (sym same) (few_records bytes m.ok);
     }

@@ -14,8 +14,8 @@ within code a = either (eqb a.owner code)
     either true = omega (arith, a.funds_within, a.overnight_within)
     either false = omega arith
 
-pub overflow-add-money : goal.overflow-add-money
-overflow-add-money c =
+pub overflow_add-money : goal.overflow_add-money
+overflow_add-money c =
     let row = c.args.accounts.now in
     let f = λ (a : Account). held_by c.args.code (balance_of a) in
     omega (

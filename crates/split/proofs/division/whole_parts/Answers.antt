@@ -5,8 +5,8 @@ use Rattle.split.proofs.Blanks.{blank_division}
 use Rattle.rows.proofs.Rows.{added_more, added_within, added_all}
 use Rattle.split.proofs.division.whole_parts.Goals as goal
 
-pub overflow-add-count : goal.overflow-add-count
-overflow-add-count c =
+pub overflow_add-count : goal.overflow_add-count
+overflow_add-count c =
     let i = c.loop-division.division-index in
     let row = c.args.row.now in
     omega (

@@ -5,13 +5,13 @@ use Rattle.split.specs.Refusals.{answer}
 use Rattle.split.proofs.Accepting.{weights_fit}
 use Rattle.split.proofs.limits.tested.Goals as goal
 
-pub returns-then-sum-gt-SUM-LIMIT : goal.returns-then-sum-gt-SUM-LIMIT
+pub returns-then-sum-gt-SUM_LIMIT : goal.returns-then-sum-gt-SUM_LIMIT
 unfolding answer
-returns-then-sum-gt-SUM-LIMIT g c = record { answers = grind (arith, nat_tests); weighs = tt }
+returns-then-sum-gt-SUM_LIMIT g c = record { answers = grind (arith, nat_tests); weighs = tt }
 
-pub returns-then-bearers-gt-MOST-BEARERS : goal.returns-then-bearers-gt-MOST-BEARERS
+pub returns-then-bearers-gt-MOST_BEARERS : goal.returns-then-bearers-gt-MOST_BEARERS
 unfolding answer
-returns-then-bearers-gt-MOST-BEARERS g c =
+returns-then-bearers-gt-MOST_BEARERS g c =
     let long = length-map c.args.bearers.now g.B.Bearer.bears in record { answers = grind (arith, nat_tests); weighs = tt }
 
 pub returns-then-places-bearers : goal.returns-then-places-bearers

@@ -4,9 +4,9 @@ use Rattle.split.specs.declared.bearer.Stake.{Stake}
 use Rattle.rows.proofs.Rows.{added_more, added_within, added_all, sum_by-map}
 use Rattle.split.proofs.limits.weigh.Goals as goal
 
-pub overflow-add-total : goal.overflow-add-total
+pub overflow_add-total : goal.overflow_add-total
 unfolding all_weights
-overflow-add-total g c =
+overflow_add-total g c =
     omega (
       arith,
       c.requires,

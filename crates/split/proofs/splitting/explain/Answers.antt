@@ -6,24 +6,24 @@ use Rattle.split.proofs.Quotients.{wholes_within}
 use Rattle.split.proofs.Reckoning.{row_is, divisions_long, explained, shares_are}
 use Rattle.split.proofs.splitting.explain.Goals as goal
 
-pub divide-all-requires : goal.divide-all-requires
-divide-all-requires g c =
+pub divide_all-requires : goal.divide_all-requires
+divide_all-requires g c =
     let stakes = map g.B.Bearer.bears c.args.bearers.now in
-    let ok = accepted c.args.sum (length c.args.reasons.now) stakes (sym c.in-ok-total.ensures.answers) in
+    let ok = accepted c.args.sum (length c.args.reasons.now) stakes (sym c.in_ok-total.ensures.answers) in
     record { small = ok.small; light = ok.light; room = omega (arith, ok.few, length-map c.args.bearers.now g.B.Bearer.bears) }
 
-pub slice-bounds-reckon-row-end : goal.slice-bounds-reckon-row-end
-slice-bounds-reckon-row-end g c =
+pub slice_bounds-reckon_row-end : goal.slice_bounds-reckon_row-end
+slice_bounds-reckon_row-end g c =
     let stakes = map g.B.Bearer.bears c.args.bearers.now in
-    let ok = accepted c.args.sum (length c.args.reasons.now) stakes (sym c.in-ok-total.ensures.answers) in
+    let ok = accepted c.args.sum (length c.args.reasons.now) stakes (sym c.in_ok-total.ensures.answers) in
     let few : length c.args.bearers.now ≤ 128 = omega (arith, ok.few, length-map c.args.bearers.now g.B.Bearer.bears) in
     search rules
 
-pub reckon-row-requires : goal.reckon-row-requires
-reckon-row-requires g c =
+pub reckon_row-requires : goal.reckon_row-requires
+reckon_row-requires g c =
     let stakes = map g.B.Bearer.bears c.args.bearers.now in
-    let ok = accepted c.args.sum (length c.args.reasons.now) stakes (sym c.in-ok-total.ensures.answers) in
-    let row = row_is c.args.sum c.in-ok-total.total (length c.args.bearers.now) stakes c.divide-all.new.table _ (sym (length-map c.args.bearers.now g.B.Bearer.bears)) c.in-ok-total.ensures.weighs c.divide-all.ensures in
+    let ok = accepted c.args.sum (length c.args.reasons.now) stakes (sym c.in_ok-total.ensures.answers) in
+    let row = row_is c.args.sum c.in_ok-total.total (length c.args.bearers.now) stakes c.divide_all.new.table _ (sym (length-map c.args.bearers.now g.B.Bearer.bears)) c.in_ok-total.ensures.weighs c.divide_all.ensures in
     record {
       small = ok.small;
       within = omega (arith, ap (sum_by (λ (d : Division). d.whole)) row, wholes_within c.args.sum stakes);
@@ -33,16 +33,16 @@ reckon-row-requires g c =
 pub returns : goal.returns
 returns g c =
     let stakes = map g.B.Bearer.bears c.args.bearers.now in
-    let row = row_is c.args.sum c.in-ok-total.total (length c.args.bearers.now) stakes c.divide-all.new.table _ (sym (length-map c.args.bearers.now g.B.Bearer.bears)) c.in-ok-total.ensures.weighs c.divide-all.ensures in
+    let row = row_is c.args.sum c.in_ok-total.total (length c.args.bearers.now) stakes c.divide_all.new.table _ (sym (length-map c.args.bearers.now g.B.Bearer.bears)) c.in_ok-total.ensures.weighs c.divide_all.ensures in
     record {
-      answers_as_defined = c.in-ok-total.ensures.answers;
-      places_as_defined = explained c.args.sum c.in-ok-total.total stakes (take (length c.args.bearers.now - 0) c.divide-all.new.table) c.reckon-row.new.reasons c.args.reasons.now
-          row c.in-ok-total.ensures.weighs c.reckon-row.ensures;
+      answers_as_defined = c.in_ok-total.ensures.answers;
+      places_as_defined = explained c.args.sum c.in_ok-total.total stakes (take (length c.args.bearers.now - 0) c.divide_all.new.table) c.reckon_row.new.reasons c.args.reasons.now
+          row c.in_ok-total.ensures.weighs c.reckon_row.ensures;
       reasons_end_in_the_shares = shares_are c.args.sum stakes;
     }
 
-pub returns-in-err-total : goal.returns-in-err-total
-returns-in-err-total g c = record {
+pub returns-in_err-total : goal.returns-in_err-total
+returns-in_err-total g c = record {
   answers_as_defined = search rules;
   places_as_defined = search rules;
   reasons_end_in_the_shares = shares_are c.args.sum (map g.B.Bearer.bears c.args.bearers.now);

@@ -18,34 +18,34 @@ returns-then-shares-bearers g c =
       same_in_any_order = same_in_any_order c.args.sum (length c.args.shares.now) stakes;
     }
 
-pub returns-in-err-explain : goal.returns-in-err-explain
-returns-in-err-explain g c =
+pub returns-in_err-explain : goal.returns-in_err-explain
+returns-in_err-explain g c =
     let stakes = map g.B.Bearer.bears c.args.bearers.now in
-    let r = c.from-residual.result in
-    let p = err_from_is_err_and r c.from-residual.ensures.1 in
+    let r = c.from_residual.result in
+    let p = err_from_is_err_and r c.from_residual.ensures.1 in
     let many : length stakes ≤ length c.args.shares.now = omega (arith, c.if-shares-bearers.false, length-map c.args.bearers.now g.B.Bearer.bears) in
     record {
-      answers_as_defined = p.1 ∙ ap Err p.2 ∙ c.in-err-explain.ensures.answers_as_defined ∙ enough_places c.args.sum (length c.args.shares.now) stakes many;
+      answers_as_defined = p.1 ∙ ap Err p.2 ∙ c.in_err-explain.ensures.answers_as_defined ∙ enough_places c.args.sum (length c.args.shares.now) stakes many;
       places_as_defined = sym (ap (λ x. placed x (shares c.args.sum stakes) c.args.shares.now) p.1);
-      fair_shares = IfOk-from_err r _ c.from-residual.ensures.0;
+      fair_shares = IfOk-from_err r _ c.from_residual.ensures.0;
       same_in_any_order = same_in_any_order c.args.sum (length c.args.shares.now) stakes;
     }
 
-pub slice-bounds-share-out-end : goal.slice-bounds-share-out-end
-slice-bounds-share-out-end g c =
+pub slice_bounds-share_out-end : goal.slice_bounds-share_out-end
+slice_bounds-share_out-end g c =
     let stakes = map g.B.Bearer.bears c.args.bearers.now in
-    let ok = accepted c.args.sum 128 stakes (sym c.in-ok-explain.ensures.answers_as_defined) in
+    let ok = accepted c.args.sum 128 stakes (sym c.in_ok-explain.ensures.answers_as_defined) in
     let few : length c.args.bearers.now ≤ 128 = omega (arith, ok.few, length-map c.args.bearers.now g.B.Bearer.bears) in
     search rules
 
-pub share-out-requires : goal.share-out-requires
-share-out-requires g c =
+pub share_out-requires : goal.share_out-requires
+share_out-requires g c =
     let stakes = map g.B.Bearer.bears c.args.bearers.now in
     omega (
       arith,
       c.if-shares-bearers.false,
       length-map c.args.bearers.now g.B.Bearer.bears,
-      reasons_long c.args.sum (length c.args.bearers.now) stakes c.explain.new.reasons _ (sym (length-map c.args.bearers.now g.B.Bearer.bears)) c.in-ok-explain.ensures.places_as_defined,
+      reasons_long c.args.sum (length c.args.bearers.now) stakes c.explain.new.reasons _ (sym (length-map c.args.bearers.now g.B.Bearer.bears)) c.in_ok-explain.ensures.places_as_defined,
     )
 
 pub returns : goal.returns
@@ -54,13 +54,13 @@ returns g c =
     let old = c.args.shares.now in
     let stakes = map g.B.Bearer.bears c.args.bearers.now in
     let many : length stakes ≤ length old = omega (arith, c.if-shares-bearers.false, length-map c.args.bearers.now g.B.Bearer.bears) in
-    let said = c.in-ok-explain.ensures.answers_as_defined ∙ enough_places sum (length old) stakes many in
+    let said = c.in_ok-explain.ensures.answers_as_defined ∙ enough_places sum (length old) stakes many in
     let ok = accepted sum (length old) stakes (sym said) in
-    let written = shared_out sum (length c.args.bearers.now) stakes c.explain.new.reasons _ c.share-out.new.shares old (sym (length-map c.args.bearers.now g.B.Bearer.bears)) c.in-ok-explain.ensures.places_as_defined c.share-out.ensures in
+    let written = shared_out sum (length c.args.bearers.now) stakes c.explain.new.reasons _ c.share_out.new.shares old (sym (length-map c.args.bearers.now g.B.Bearer.bears)) c.in_ok-explain.ensures.places_as_defined c.share_out.ensures in
     let rest = drop (length (shares sum stakes)) old in
     record {
       answers_as_defined = said;
       places_as_defined = written;
-      fair_shares = fair_shares sum (length old) stakes ok c.share-out.new.shares rest written;
+      fair_shares = fair_shares sum (length old) stakes ok c.share_out.new.shares rest written;
       same_in_any_order = same_in_any_order sum (length old) stakes;
     }

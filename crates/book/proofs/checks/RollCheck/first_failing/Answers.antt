@@ -7,8 +7,8 @@ use Rattle.book.proofs.checks.RollCheck.first_failing.Goals as goal
 pub fails-requires : goal.fails-requires
 fails-requires c = omega (arith, c.table-count.ensures.size, c.loop-place-test.true)
 
-pub overflow-cast-result : goal.overflow-cast-result
-overflow-cast-result c = omega (arith, c.table-count.ensures.few, c.loop-place-test.true)
+pub overflow_cast-result : goal.overflow_cast-result
+overflow_cast-result c = omega (arith, c.table-count.ensures.few, c.loop-place-test.true)
 
 pub returns-then-fails : goal.returns-then-fails
 returns-then-fails c =

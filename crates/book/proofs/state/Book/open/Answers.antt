@@ -9,10 +9,10 @@ use Rattle.book.proofs.state.Book.open.Goals as goal
 
 pub returns : goal.returns
 returns g c =
-    let met = c.in-ok-roll.ensures in
+    let met = c.in_ok-roll.ensures in
     record {
       answers_as_defined = ap (result_map_both (λ _. tt) (λ fault. fault)) met.decides;
-      stands_as_defined = c.fresh-book.ensures.stands ∙ ap (λ r. model_after r c.args.basis (model c.args.self.now)) met.decides;
+      stands_as_defined = c.fresh_book.ensures.stands ∙ ap (λ r. model_after r c.args.basis (model c.args.self.now)) met.decides;
       refused_leaves_every_field = tt;
-      records_have_the_bytes_read = ap roll_bytes (modelled c.fresh-book.result) ∙ ap (λ roll. roll_bytes (standing roll)) c.fresh-book.ensures.same ∙ met.exact;
+      records_have_the_bytes_read = ap roll_bytes (modelled c.fresh_book.result) ∙ ap (λ roll. roll_bytes (standing roll)) c.fresh_book.ensures.same ∙ met.exact;
     }
