@@ -6,20 +6,19 @@ ghost use Rattle.book_console.specs.Answers.{split_text};
 ghost use Rattle.book_console.specs.Lines.{refusal_line, share_line, division_part, rank_part, gets_part, reason_line, share_lines, explained_line};
 
 use crate::outcome::{reasons_of, shares_of};
-use crate::writing::written;
 use split::{Reason, Refusal, Stake};
 use std::alloc::{AllocError, Global};
 
 fn print_refusal(refusal: Refusal, out: &mut String) -> Result<(), AllocError>
     ensures { OnOk result (string_bytes out.new ≡ string_bytes out.old ++ refusal_line (number_of refusal)) }
 {
-    written(writeln!(out, "refused {}", refusal.number()))
+    writeln!(out, "refused {}", refusal.number())
 }
 
 fn print_share(code: u32, amount: u64, out: &mut String) -> Result<(), AllocError>
     ensures { OnOk result (string_bytes out.new ≡ string_bytes out.old ++ share_line code amount) }
 {
-    written(writeln!(out, "share {code} {amount}"))
+    writeln!(out, "share {code} {amount}")
 }
 
 // The division that a share follows from.
@@ -27,11 +26,11 @@ fn print_division(sum: u64, reason: &Reason, out: &mut String) -> Result<(), All
     ensures { OnOk result (string_bytes out.new ≡ string_bytes out.old ++ division_part sum reason.now) }
 {
     let own = reason.division;
-    written(write!(
+    write!(
         out,
         "# {}: {sum} x {} / {} = {}",
         own.code, own.weight, reason.total, own.whole
-    ))
+    )
 }
 
 // What it leaves, and how the bearer stands for an odd dollar.
@@ -39,11 +38,11 @@ fn print_rank(reason: &Reason, out: &mut String) -> Result<(), AllocError>
     ensures { OnOk result (string_bytes out.new ≡ string_bytes out.old ++ rank_part reason.now) }
 {
     let left = reason.division.remainder;
-    written(write!(
+    write!(
         out,
         ", remainder {left}; rank {}, odd dollars {}",
         reason.rank, reason.odd
-    ))
+    )
 }
 
 // Whether the bearer gets an odd dollar, as the line ends.

@@ -4,18 +4,17 @@ ghost use Rattle.std.specs.List.{flat_map};
 ghost use Rattle.roll.specs.Standing.{balance_of};
 ghost use Rattle.book_console.specs.Lines.{funds_line};
 
-use crate::writing::written;
 use roll::Account;
 use std::alloc::AllocError;
 
 fn print_account(account: &Account, out: &mut String) -> Result<(), AllocError>
     ensures { OnOk result (string_bytes out.new ≡ string_bytes out.old ++ funds_line (balance_of account.now)) }
 {
-    written(writeln!(
+    writeln!(
         out,
         "{} {} {}",
         account.code, account.funds, account.overnight
-    ))
+    )
 }
 
 // The funds and the overnight money of each account.

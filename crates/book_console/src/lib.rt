@@ -7,7 +7,6 @@ mod funds;
 mod opening;
 mod outcome;
 mod streams;
-mod writing;
 
 pub use desk::Console;
 pub use streams::serve;

@@ -6,7 +6,6 @@ ghost use Rattle.book.specs.Opening.{opening, check_value};
 ghost use Rattle.book_console.specs.Bases.{basis_called};
 ghost use Rattle.book_console.specs.Lines.{layer_name, fault_line, opening_line, check_line};
 
-use crate::writing::written;
 use basis::Commitment;
 use book::{Book, Layer, OpenFault};
 use commands::BasisName;
@@ -45,12 +44,12 @@ fn print_fault(fault: OpenFault, out: &mut String) -> Result<(), AllocError>
     ensures { OnOk result (string_bytes out.new ≡ string_bytes out.old ++ fault_line fault) }
 {
     let layer = layer_name(fault.layer());
-    written(writeln!(
+    writeln!(
         out,
         "refused {} place {} layer {layer}",
         fault.number(),
         fault.place()
-    ))
+    )
 }
 
 // What the check answers for the same bytes.
@@ -58,7 +57,7 @@ fn print_check(image: &[u8], out: &mut String) -> Result<(), AllocError>
     ensures { OnOk result (string_bytes out.new ≡ string_bytes out.old ++ check_line (check_value (opening image.now))) }
 {
     let value = book::allocation_book_check(image);
-    written(writeln!(out, "check {value}"))
+    writeln!(out, "check {value}")
 }
 
 // Whether a book was opened, or why not.

@@ -1,5 +1,5 @@
 // The text that answers a split.
-ghost use Rattle.std.specs.Prelude.{◌≡◌, true, false, ◌++◌, length, is_ok, string_bytes, OnOk};
+ghost use Rattle.std.specs.Prelude.{◌≡◌, true, false, ◌++◌, length, string_bytes, OnOk};
 ghost use Rattle.std.specs.List.{flat_map};
 ghost use Rattle.split.specs.Refusals.{number_of};
 ghost use Rattle.console.specs.Answers.{split_text};
@@ -8,28 +8,17 @@ ghost use Rattle.console.specs.Lines.{refusal_line, share_line, division_part, r
 use crate::outcome::{reasons_of, shares_of};
 use split::{Reason, Refusal, Stake};
 use std::alloc::{AllocError, Global};
-use std::fmt;
-
-// What writing to a `String` comes to: it fails only for want of memory.
-fn written(res: fmt::Result) -> Result<(), AllocError>
-    ensures { is_ok result ≡ is_ok res }
-{
-    match res {
-        Ok(()) => Ok(()),
-        Err(_) => Err(AllocError),
-    }
-}
 
 fn print_refusal(refusal: Refusal, out: &mut String) -> Result<(), AllocError>
     ensures { OnOk result (string_bytes out.new ≡ string_bytes out.old ++ refusal_line (number_of refusal)) }
 {
-    written(writeln!(out, "refused {}", refusal.number()))
+    writeln!(out, "refused {}", refusal.number())
 }
 
 fn print_share(code: u32, amount: u64, out: &mut String) -> Result<(), AllocError>
     ensures { OnOk result (string_bytes out.new ≡ string_bytes out.old ++ share_line code amount) }
 {
-    written(writeln!(out, "share {code} {amount}"))
+    writeln!(out, "share {code} {amount}")
 }
 
 // The division that a share follows from.
@@ -37,11 +26,11 @@ fn print_division(sum: u64, reason: &Reason, out: &mut String) -> Result<(), All
     ensures { OnOk result (string_bytes out.new ≡ string_bytes out.old ++ division_part sum reason.now) }
 {
     let own = reason.division;
-    written(write!(
+    write!(
         out,
         "# {}: {sum} x {} / {} = {}",
         own.code, own.weight, reason.total, own.whole
-    ))
+    )
 }
 
 // What it leaves, and how the bearer stands for an odd dollar.
@@ -49,11 +38,11 @@ fn print_rank(reason: &Reason, out: &mut String) -> Result<(), AllocError>
     ensures { OnOk result (string_bytes out.new ≡ string_bytes out.old ++ rank_part reason.now) }
 {
     let left = reason.division.remainder;
-    written(write!(
+    write!(
         out,
         ", remainder {left}; rank {}, odd dollars {}",
         reason.rank, reason.odd
-    ))
+    )
 }
 
 // Whether the bearer gets an odd dollar, as the line ends.

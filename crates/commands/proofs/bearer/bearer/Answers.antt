@@ -13,22 +13,22 @@ after : (word : List ℕ) (at : ℕ) (r : Option ℕ) → r ≡ number_of 184467
 after word at r h = h ∙ ap (number_of 18446744073709551615) (take_rest word (at + 1))
 
 pub returns-then-at-word : goal.returns-then-at-word
-returns-then-at-word c = no_colon c.args.word.now _ c.colon_at.ensures.place c.if-at-word.true
+returns-then-at-word c = no_colon c.args.word.now _ c.colon-at.ensures.place c.if-at-word.true
 
 pub returns-in_err-code : goal.returns-in_err-code
 returns-in_err-code c =
     c.from_residual.ensures
-    ∙ no_code c.args.word.now _ c.colon_at.ensures.place
-    (before c.args.word.now c.colon_at.result c.from.result _ c.from.ensures c.in_err-code.ensures.is_the_number_of_the_word)
+    ∙ no_code c.args.word.now _ c.colon-at.ensures.place
+    (before c.args.word.now c.colon-at.result c.from.result _ c.from.ensures c.in_err-code.ensures.is_the_number_of_the_word)
 
 pub returns-in_err-weight : goal.returns-in_err-weight
 returns-in_err-weight c =
     c.from_residual-in_err-weight.ensures
-    ∙ no_weight c.args.word.now _ c.colon_at.ensures.place
-    (after c.args.word.now c.colon_at.result _ c.in_err-weight.ensures.is_the_number_of_the_word)
+    ∙ no_weight c.args.word.now _ c.colon-at.ensures.place
+    (after c.args.word.now c.colon-at.result _ c.in_err-weight.ensures.is_the_number_of_the_word)
 
 pub returns : goal.returns
 returns c =
-    made_of c.args.word.now _ c.colon_at.ensures.place (Some c.in_ok-code.code) (Some c.in_ok-weight.weight)
-    (before c.args.word.now c.colon_at.result c.from.result _ c.from.ensures c.in_ok-code.ensures.is_the_number_of_the_word)
-    (after c.args.word.now c.colon_at.result _ c.in_ok-weight.ensures.is_the_number_of_the_word)
+    made_of c.args.word.now _ c.colon-at.ensures.place (Some c.in_ok-code.code) (Some c.in_ok-weight.weight)
+    (before c.args.word.now c.colon-at.result c.from.result _ c.from.ensures c.in_ok-code.ensures.is_the_number_of_the_word)
+    (after c.args.word.now c.colon-at.result _ c.in_ok-weight.ensures.is_the_number_of_the_word)

@@ -6,9 +6,9 @@ use Rattle.console.specs.Lines.{explained_line}
 use Rattle.console.proofs.Saying.{said_explained}
 use Rattle.console.proofs.answer.answer_explained.Goals as goal
 
-pub returns-in_ok-print_reasons : goal.returns-in_ok-print_reasons
-returns-in_ok-print_reasons c =
+pub returns-in_ok-print_reasons-in-Ok : goal.returns-in_ok-print_reasons-in-Ok
+returns-in_ok-print_reasons-in-Ok c =
     let xs = c.args.bearers.now in
-    c.in_ok-print_reasons.ensures
+    c.in_ok-print_reasons-in-Ok.ensures
     ∙ ap (λ v. string_bytes c.args.out.now ++ flat_map (explained_line c.args.sum) v) c.as_slice.ensures.value
     ∙ ap (λ l. string_bytes c.args.out.now ++ l) (said_explained c.args.sum xs (answer c.args.sum (length xs) xs) (vec_items c.in-Ok.reasons) (sym (ap (result_map_both vec_items (λ refusal. refusal)) c.in-Ok.is) ∙ c.in_ok-outcome.ensures))

@@ -10,9 +10,9 @@ print_shares-requires c =
     one_each c.args.sum c.args.bearers.now (answer c.args.sum (length c.args.bearers.now) c.args.bearers.now) (vec_items c.in-Ok.shares) (sym (ap (result_map_both vec_items (λ refusal. refusal)) c.in-Ok.is) ∙ c.in_ok-outcome.ensures)
     ∙ sym (ap length c.as_slice.ensures.value)
 
-pub returns-in_ok-print_shares : goal.returns-in_ok-print_shares
-returns-in_ok-print_shares c =
+pub returns-in_ok-print_shares-in-Ok : goal.returns-in_ok-print_shares-in-Ok
+returns-in_ok-print_shares-in-Ok c =
     let xs = c.args.bearers.now in
-    c.in_ok-print_shares.ensures
+    c.in_ok-print_shares-in-Ok.ensures
     ∙ ap (λ v. string_bytes c.args.out.now ++ share_lines xs v) c.as_slice.ensures.value
     ∙ ap (λ l. string_bytes c.args.out.now ++ l) (said_plainly c.args.sum xs (answer c.args.sum (length xs) xs) (vec_items c.in-Ok.shares) (sym (ap (result_map_both vec_items (λ refusal. refusal)) c.in-Ok.is) ∙ c.in_ok-outcome.ensures))
