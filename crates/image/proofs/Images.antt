@@ -1,9 +1,9 @@
 -- What an image without a fault in its head has met, and that its records have its bytes. Assumes nothing.
-use Rattle.std.proofs.Common.{◌≡◌, ℕ, zero, suc, ◌+◌, ◌*◌, ◌<◌, ◌≤◌, List, [], ◌∷◌, ◌++◌, map, length, take, drop, Some, None, Ok, Err, Option, sym, refl, ap, ◌∙◌, subst, mul-zero, mul-one, mul-suc, mul-add, arith, take-add}
+use Rattle.std.proofs.Common.{◌≡◌, ℕ, zero, suc, ◌+◌, ◌*◌, ◌<◌, ◌≤◌, List, ◌++◌, map, length, take, drop, Some, None, Ok, Option, sym, refl, ap, ◌∙◌, subst, mul-zero, mul-one, mul-suc, mul-add, arith, take-add}
 use Rattle.std.specs.List.{range_with_len, flat_map}
 use Rattle.std.specs.Int.Digits.{AllBelowBase}
 use Rattle.std.proofs.lemmas.List.FromFn.{length-map-range_with_len}
-use Rattle.std.proofs.lemmas.List.{append_assoc, drop-drop, length-drop, take_all, take-append-drop}
+use Rattle.std.proofs.lemmas.List.{drop-drop, length-drop, take_all, take-append-drop}
 use Rattle.std.proofs.lemmas.Bool.Decides.{nat_tests}
 use Rattle.image.specs.declared.record.AccountRecord.{AccountRecord}
 use Rattle.image.specs.declared.record.ParticipantRecord.{ParticipantRecord}

@@ -1,12 +1,12 @@
 // Numbers of several bytes, the first weighing most.
 ghost use Rattle.std.specs.Prelude.{◌≡◌, ◌+◌, ◌^◌, ◌<◌, ◌≤◌, length};
-ghost use Rattle.std.specs.Int.Digits.{number_from_digits as number-of-bytes};
+ghost use Rattle.std.specs.Int.Digits.{number_from_digits as number_of_bytes};
 ghost use Rattle.image.specs.Layout.{number_at};
 
 // The number that at most eight bytes are.
 fn number(digits: &[u8]) -> u64
     requires { length digits.now ≤ 8 }
-    ensures value { result ≡ number-of-bytes 256 digits.now }
+    ensures value { result ≡ number_of_bytes 256 digits.now }
     ensures fits { result < 256 ^ length digits.now }
 {
     let mut value = 0;

@@ -1,7 +1,6 @@
 // The roll: participants and accounts as plain tables, with every field within its limits.
 #![tactic(auto)]
 
-
 mod access;
 mod account;
 mod coded;

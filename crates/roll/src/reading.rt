@@ -1,5 +1,5 @@
 // Reading a roll from its image.
-ghost use Rattle.std.specs.Prelude.{◌≡◌, ◌≤◌, ◌++◌, map, length, drop, IfOk, None as no-fault};
+ghost use Rattle.std.specs.Prelude.{◌≡◌, ◌≤◌, ◌++◌, map, length, drop, IfOk, None as no_fault};
 ghost use Rattle.std.specs.Result.{result_map_both};
 ghost use Rattle.std.specs.List.{AllByRecursion as All};
 ghost use Rattle.image.specs.Layout.{records_of};
@@ -63,7 +63,7 @@ fn enrol_all(records: &[ParticipantRecord], table: &mut [Participant])
 
 // The account that a record within its limits opens.
 fn open_account(source: &AccountRecord) -> Account
-    requires { account_fault source.now ≡ no-fault }
+    requires { account_fault source.now ≡ no_fault }
     ensures { balance_of result ≡ opening_balance source.now }
 {
     Account {
@@ -77,7 +77,7 @@ fn open_account(source: &AccountRecord) -> Account
 // The accounts, one for each place from the first on; spare places stay.
 fn open_all(records: &[AccountRecord], table: &mut [Account])
     requires room { length records.now ≤ length table.old }
-    requires faultless { All (λ r. account_fault r ≡ no-fault) records.now }
+    requires faultless { All (λ r. account_fault r ≡ no_fault) records.now }
     ensures { map balance_of table.new ≡ map opening_balance records.now ++ drop (length records.now) (map balance_of table.old) }
 {
     for i in 0..records.len() {
@@ -87,7 +87,7 @@ fn open_all(records: &[AccountRecord], table: &mut [Account])
 
 // The roll of an image without a fault.
 fn enrol_image(image: &Image) -> Roll
-    requires { field_fault (records_of image.now) ≡ no-fault }
+    requires { field_fault (records_of image.now) ≡ no_fault }
     ensures { standing result ≡ enrolled_all (records_of image.now) }
 {
     let mut participants = [Participant::BLANK; MOST_PARTICIPANTS];

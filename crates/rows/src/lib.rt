@@ -1,3 +1,2 @@
 // Lemmas on rows: sums, counts and tables that are filled place by place. No code: the crates above import the proofs.
 #![tactic(auto)]
-

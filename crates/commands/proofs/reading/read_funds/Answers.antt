@@ -1,4 +1,4 @@
-use Rattle.std.proofs.Common.{◌≡◌, vec_items, sym, ap, ◌∙◌, true-eqb, false-eqb}
+use Rattle.std.proofs.Common.{vec_items, sym, ap, ◌∙◌, true-eqb, false-eqb}
 use Rattle.commands.specs.Meanings.{lists_funds, tells}
 use Rattle.commands.specs.Readings.{with_book}
 use Rattle.commands.proofs.Arguments.{no_words, some_words}

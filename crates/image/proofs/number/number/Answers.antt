@@ -24,4 +24,4 @@ loop-digit-preserved c = omega (arith, c.from.ensures, c.loop-digit.invariant, n
 pub returns : goal.returns
 returns c =
     let all = c.loop-digit.invariant ∙ ap (number_from_digits 256) (take_all c.loop-digit.digit-index c.args.digits.now c.loop-digit-test.false) in
-    record { value = all; fits = omega (arith, all, number_lt 256 c.args.digits.now (bytes_under c.args.digits.now c.ok.digits)) }
+    record { value = all; fits = omega (arith, all, number_lt 256 c.args.digits.now (bytes_under c.args.digits.now c.type_inv.digits)) }

@@ -1,5 +1,4 @@
 use Rattle.std.proofs.Common.{◌≡◌, ℕ, List, None, Ok, sym, ap, ◌∙◌, subst, arith}
-use Rattle.image.specs.declared.fault.ImageFault.{ImageFault}
 use Rattle.image.specs.declared.reading.Counts.{Counts}
 use Rattle.image.specs.Faults.{head_fault, unless}
 use Rattle.image.specs.Head.{counts_of}
@@ -33,7 +32,7 @@ read_accounts-requires c =
 pub invariant_of-result : goal.invariant_of-result
 invariant_of-result c =
     let m = met c.args.bytes.now c.in_ok-counts.counts c.in_ok-counts.ensures in
-    (omega arith, (omega arith, tt))
+    record { few_participants = omega arith; few_accounts = omega arith }
 
 pub returns : goal.returns
 returns c =
