@@ -31,7 +31,7 @@ impl Coded for Account {
 
 // How many of the row have this code.
 pub fn with_code<C: Coded>(code: u32, row: &[C]) -> usize
-    ensures counts_those_with_the_code { result ≡ count_by (λ x. nat_eq (called x) code) row.now }
+    ensures counts_those_with_the_code { result ≡ count_by (λ x. nat_eq (C.called x) code) row.now }
 {
     let mut count = 0;
     for record in row {

@@ -76,7 +76,7 @@ impl Limited for AccountRecord {
 // The first field outside its limits in a table of records of so many bytes that begins at a place: its first byte.
 pub(crate) fn first_outside<R: Limited>(records: &[R], width: u16, from: u16) -> Option<u16>
     requires { from + width * length records.now ≤ 4423 }
-    ensures { result ≡ first_fault faulty width from records.now }
+    ensures { result ≡ first_fault R.faulty width from records.now }
 {
     let mut place = from;
     for record in records {
