@@ -1,5 +1,5 @@
 -- What every basis owes. Assumes nothing.
-use Rattle.std.specs.Prelude.{◌≡◌, ℕ, ◌≤◌, Bool, List, map, slice_index}
+use Rattle.std.specs.Prelude.{◌≡◌, ℕ, ◌≤◌, Bool, map, slice_index}
 use Rattle.std.specs.List.{ContainsAt as Has}
 use Rattle.roll.specs.declared.participant.Participant.{Participant}
 use Rattle.roll.specs.Alike.{Alike}

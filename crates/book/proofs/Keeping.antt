@@ -7,6 +7,7 @@ use Rattle.roll.specs.declared.participant.Participant.{Participant}
 use Rattle.roll.specs.Holdable.{Holdable, participants_above}
 use Rattle.roll.specs.Standing.{Balance, Standing, standing, held_by, money_of}
 use Rattle.book.specs.declared.parts.Outstanding.{Outstanding}
+use Rattle.basis.specs.declared.basis.Basis.{Ghosts}
 use Rattle.book.specs.declared.state.Book.{Book}
 use Rattle.book.specs.Holdings.{Holding, holdings, stake_by, stake_of, staked_above}
 
@@ -33,7 +34,7 @@ nobody_above ps xs rows room none =
     (λ p. bit_below (ltb 9000000000 (money_of p.code xs)) (ltb 9000000000 (stake_of p.code (holdings xs rows))) (λ e. lt-ltb 9000000000 (stake_of p.code (holdings xs rows)) (omega (arith, ltb-true 9000000000 (money_of p.code xs) e, money_at_stake p.code xs rows room)))) ps) in
     omega (arith, fewer, none)
 
-pub book_holds : {B : Type 0} (book : Book B) → Holdable (standing book.roll)
+pub book_holds : {B : Type 0} {g : Ghosts B} (book : Book B g) → Holdable (standing book.roll)
 book_holds book = record {
   few_participants = book.few_participants;
   few_accounts = book.few_accounts;

@@ -3,6 +3,7 @@ use Rattle.std.proofs.Common.{◌≡◌, ℕ, ◌≤◌, List, [], ◌∷◌, ma
 use Rattle.roll.specs.declared.participant.Participant.{Participant}
 use Rattle.roll.specs.Standing.{Balance, Standing, standing}
 use Rattle.book.specs.declared.parts.Outstanding.{Outstanding}
+use Rattle.basis.specs.declared.basis.Basis.{Ghosts}
 use Rattle.book.specs.declared.state.Book.{Book}
 use Rattle.book.specs.Holdings.{Member, Holding, members, holdings}
 use Rattle.book.specs.Model.{model, standing_of}
@@ -22,7 +23,7 @@ their_accounts (a ∷ xs) (row ∷ rows) room = ap (λ l. a ∷ l) (their_accoun
 abbrev rolled : List Participant → List Balance → ℕ → Standing
 rolled participants accounts defaults = record { participants = participants; accounts = accounts; defaults = defaults }
 
-pub modelled : {B : Type 0} (book : Book B) → standing_of (model book) ≡ standing book.roll
+pub modelled : {B : Type 0} {g : Ghosts B} (book : Book B g) → standing_of (model book) ≡ standing book.roll
 unfolding model
 modelled book =
     let s = standing book.roll in

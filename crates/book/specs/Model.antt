@@ -6,6 +6,7 @@ use Rattle.book.specs.declared.parts.Period.{Period}
 use Rattle.book.specs.declared.parts.Period.TheVariants.{Closed}
 use Rattle.book.specs.declared.parts.Termination.{Termination}
 use Rattle.book.specs.declared.parts.Termination.TheVariants.{Partial}
+use Rattle.basis.specs.declared.basis.Basis.{Ghosts}
 use Rattle.book.specs.declared.state.Book.{Book}
 use Rattle.book.specs.Holdings.{Member, Holding, members, holdings}
 
@@ -21,7 +22,7 @@ pub record Model (B : Type 0) : Type 0 where
   pub lines : ℕ
 
 -- The model of a book.
-unfoldable pub model : {B : Type 0} → Book B → Model B
+unfoldable pub model : {B : Type 0} {g : Ghosts B} → Book B g → Model B
 model book = record {
   basis = book.basis;
   members = members (standing book.roll).participants book.owed;

@@ -1,6 +1,6 @@
 -- From the records of an image to a roll: what testing them answers, and what a roll without a fault has met. Assumes nothing.
-use Rattle.std.proofs.Common.{◌≡◌, ℕ, ◌+◌, ◌*◌, ◌<◌, ◌≤◌, Bool, true, false, cond, ◌||◌, eqb, ltb, List, [], ◌∷◌, ◌++◌, map, length, take, Some, None, Ok, Err, count_by, Option, sym, refl, ap, ◌∙◌, arith}
-use Rattle.std.specs.List.{AllByRecursion as All}
+use Rattle.std.proofs.Common.{◌≡◌, ℕ, ◌+◌, ◌*◌, Bool, false, cond, eqb, List, [], ◌∷◌, ◌++◌, map, length, take, Some, None, Ok, Err, count_by, Option, sym, refl, ap, ◌∙◌, arith}
+use Rattle.std.specs.List.{AllByRecursion}
 use Rattle.std.proofs.ByRecursion.{All-map, All-weaker}
 use Rattle.std.proofs.lemmas.List.{length-map, take-map}
 use Rattle.std.proofs.lemmas.Bool.Decides.{nat_tests}
@@ -35,16 +35,16 @@ module _ (r : Records) (participants : List ParticipantRecord) (are : participan
       ∙ ap (λ o. told (first_of o (first_fault account_fault 24 (account_place (length r.participants) 0) r.accounts))) (none ∙ ap (first_fault participant_fault 21 7) are)
 
 -- no fault in any record
-pub faultless_participants : (r : Records) → field_fault r ≡ None → All (λ p. participant_fault p ≡ None) r.participants
+pub faultless_participants : (r : Records) → field_fault r ≡ None → AllByRecursion (λ p. participant_fault p ≡ None) r.participants
 unfolding field_fault
 faultless_participants r e = each_without participant_fault 21 7 r.participants (not_first _ _ e).0
 
-pub faultless_accounts : (r : Records) → field_fault r ≡ None → All (λ a. account_fault a ≡ None) r.accounts
+pub faultless_accounts : (r : Records) → field_fault r ≡ None → AllByRecursion (λ a. account_fault a ≡ None) r.accounts
 unfolding field_fault
 faultless_accounts r e = each_without account_fault 24 _ r.accounts (not_first _ _ e).1
 
 -- records without a fault give nothing that a test counts
-untested : {X Y : Type 0} (fault : X → Option ℕ) (f : X → Y) (test : Y → Bool) → ((x : X) → fault x ≡ None → test (f x) ≡ false) → (xs : List X) → All (λ x. fault x ≡ None) xs → count_by test (map f xs) ≡ 0
+untested : {X Y : Type 0} (fault : X → Option ℕ) (f : X → Y) (test : Y → Bool) → ((x : X) → fault x ≡ None → test (f x) ≡ false) → (xs : List X) → AllByRecursion (λ x. fault x ≡ None) xs → count_by test (map f xs) ≡ 0
 untested fault f test h xs all = none_counted test (map f xs) (All-map (λ y. test y ≡ false) f xs (All-weaker (λ x. fault x ≡ None) (λ x. test (f x) ≡ false) h xs all))
 
 participant_within : (p : ParticipantRecord) → participant_fault p ≡ None → participant_outside (enrolled p) ≡ false
@@ -80,7 +80,7 @@ told_ok None e = refl
 told_ok (Some place) e = let z : ◌≡◌ {A = ℕ} 0 1 = cc in absurd (omega arith)
 
 -- records that go into a roll and come back
-map_same : {X : Type 0} (f : X → X) (P : X → Type 0) → ((x : X) → P x → f x ≡ x) → (xs : List X) → All P xs → map f xs ≡ xs
+map_same : {X : Type 0} (f : X → X) (P : X → Type 0) → ((x : X) → P x → f x ≡ x) → (xs : List X) → AllByRecursion P xs → map f xs ≡ xs
 map_same f P h [] all = refl
 map_same f P h (x ∷ xs) all = ap (λ y. y ∷ map f xs) (h x all.0) ∙ ap (λ l. x ∷ l) (map_same f P h xs all.1)
 

@@ -1,6 +1,6 @@
 -- Finding the first fault of a table, record by record. Assumes nothing.
 use Rattle.std.proofs.Common.{◌≡◌, ℕ, ◌+◌, ◌<◌, ◌≤◌, List, [], ◌∷◌, length, get_or, drop, Some, None, Option, sym, refl, ap, ◌∙◌, arith}
-use Rattle.std.specs.List.{AllByRecursion as All}
+use Rattle.std.specs.List.{AllByRecursion}
 use Rattle.std.proofs.lemmas.List.{at_drop_more, at_drop_all}
 use Rattle.roll.specs.Limits.{from_place, first_of, first_fault}
 
@@ -31,7 +31,7 @@ not_moved : (place : ℕ) (o : Option ℕ) → from_place place o ≡ None → o
 not_moved place None e = refl
 not_moved place (Some n) e = let z : ◌≡◌ {A = ℕ} 0 1 = cc in absurd (omega arith)
 
-pub each_without : {R : Type 0} (fault : R → Option ℕ) (width place : ℕ) (records : List R) → first_fault fault width place records ≡ None → All (λ r. fault r ≡ None) records
+pub each_without : {R : Type 0} (fault : R → Option ℕ) (width place : ℕ) (records : List R) → first_fault fault width place records ≡ None → AllByRecursion (λ r. fault r ≡ None) records
 unfolding first_fault
 each_without fault width place [] e = tt
 each_without fault width place (r ∷ rs) e =

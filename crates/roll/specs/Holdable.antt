@@ -1,5 +1,5 @@
 -- Which rolls a book can hold. Assumes nothing.
-use Rattle.std.specs.Prelude.{◌≡◌, ℕ, ◌≤◌, Bool, cond, ◌||◌, ltb, List, length, count_by, nat_eq, nat_lt}
+use Rattle.std.specs.Prelude.{◌≡◌, ℕ, ◌≤◌, Bool, ◌||◌, ltb, List, length, count_by, nat_eq, nat_lt}
 use Rattle.roll.specs.declared.participant.Participant.{Participant}
 use Rattle.roll.specs.Limits.{no_code}
 use Rattle.roll.specs.Standing.{Balance, Standing, participants_with, accounts_with, money_of}

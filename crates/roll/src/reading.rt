@@ -1,7 +1,7 @@
 // Reading a roll from its image.
 ghost use Rattle.std.specs.Prelude.{◌≡◌, ◌≤◌, ◌++◌, map, length, drop, IfOk, None as no_fault};
 ghost use Rattle.std.specs.Result.{result_map_both};
-ghost use Rattle.std.specs.List.{AllByRecursion as All};
+ghost use Rattle.std.specs.List.{AllByRecursion};
 ghost use Rattle.image.specs.Layout.{records_of};
 ghost use Rattle.roll.specs.Limits.{account_fault, field_fault, told, enrolled, enrolled_all, opening_balance, roll_of, roll_bytes};
 ghost use Rattle.roll.specs.Read.{WithinLimits};
@@ -77,7 +77,7 @@ fn open_account(source: &AccountRecord) -> Account
 // The accounts, one for each place from the first on; spare places stay.
 fn open_all(records: &[AccountRecord], table: &mut [Account])
     requires room { length records.now ≤ length table.old }
-    requires faultless { All (λ r. account_fault r ≡ no_fault) records.now }
+    requires faultless { AllByRecursion (λ r. account_fault r ≡ no_fault) records.now }
     ensures { map balance_of table.new ≡ map opening_balance records.now ++ drop (length records.now) (map balance_of table.old) }
 {
     for i in 0..records.len() {

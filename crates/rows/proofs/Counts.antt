@@ -1,6 +1,6 @@
 -- Sums and counts compared element by element. Assumes nothing.
 use Rattle.std.proofs.Common.{◌≡◌, ℕ, zero, suc, ◌+◌, ◌<◌, ◌≤◌, Bool, true, false, cond, eqb, ltb, List, [], ◌∷◌, map, length, get_or, take, sum_by, count_by, sym, refl, ap, ◌∙◌, ⊎_elim, add-one, arith}
-use Rattle.std.specs.List.{AllByRecursion as All}
+use Rattle.std.specs.List.{AllByRecursion}
 use Rattle.std.proofs.ByRecursion.{All-from_get_or}
 use Rattle.std.proofs.lemmas.List.{get_or-map, take_all}
 use Rattle.std.proofs.lemmas.List.Sums.{sum_by-cons, sum_by_more}
@@ -20,18 +20,18 @@ bit_none true e = absurd (omega arith)
 bit_none false e = refl
 
 -- what holds of every value holds of each element
-pub all_of : {X : Type 0} (P : X → Type 0) → ((x : X) → P x) → (xs : List X) → All P xs
+pub all_of : {X : Type 0} (P : X → Type 0) → ((x : X) → P x) → (xs : List X) → AllByRecursion P xs
 all_of P h [] = tt
 all_of P h (x ∷ xs) = (h x, all_of P h xs)
 
 module _ {X : Type 0} (f h : X → ℕ) where
   -- equal at each element, equal in sum
-  pub sum_by-same : (xs : List X) → All (λ x. f x ≡ h x) xs → sum_by f xs ≡ sum_by h xs
+  pub sum_by-same : (xs : List X) → AllByRecursion (λ x. f x ≡ h x) xs → sum_by f xs ≡ sum_by h xs
   sum_by-same [] e = refl
   sum_by-same (x ∷ xs) e = omega (arith, sum_by-cons f x xs, sum_by-cons h x xs, e.0, sum_by-same xs e.1)
 
   -- at most as much at each element, at most as much in sum
-  pub sum_by-below : (xs : List X) → All (λ x. f x ≤ h x) xs → sum_by f xs ≤ sum_by h xs
+  pub sum_by-below : (xs : List X) → AllByRecursion (λ x. f x ≤ h x) xs → sum_by f xs ≤ sum_by h xs
   sum_by-below [] e = omega arith
   sum_by-below (x ∷ xs) e = omega (arith, sum_by-cons f x xs, sum_by-cons h x xs, e.0, sum_by-below xs e.1)
 
@@ -42,13 +42,13 @@ module _ {X : Type 0} (f h : X → ℕ) where
 
 module _ {X : Type 0} (p : X → Bool) where
   -- nothing is counted just where nothing passes
-  pub none_passes : (xs : List X) → count_by p xs ≡ 0 → All (λ x. p x ≡ false) xs
+  pub none_passes : (xs : List X) → count_by p xs ≡ 0 → AllByRecursion (λ x. p x ≡ false) xs
   none_passes [] e = tt
   none_passes (x ∷ xs) e =
       let parts = sum_by-cons (λ y. bit (p y)) x xs in
       (bit_none (p x) (omega arith), none_passes xs (omega arith))
 
-  pub none_counted : (xs : List X) → All (λ x. p x ≡ false) xs → count_by p xs ≡ 0
+  pub none_counted : (xs : List X) → AllByRecursion (λ x. p x ≡ false) xs → count_by p xs ≡ 0
   none_counted [] h = refl
   none_counted (x ∷ xs) h =
       let own : bit (p x) ≡ 0 = ap bit h.0 in
@@ -57,7 +57,7 @@ module _ {X : Type 0} (p : X → Bool) where
 module _ {X : Type 0} (p q : X → Bool) where
   -- what passes one test passes the other
   abbrev pub Implies : List X → Type 0
-  Implies xs = All (λ x. bit (p x) ≤ bit (q x)) xs
+  Implies xs = AllByRecursion (λ x. bit (p x) ≤ bit (q x)) xs
 
   -- at most as many pass the stricter test
   pub fewer : (xs : List X) → Implies xs → count_by p xs ≤ count_by q xs

@@ -1,6 +1,6 @@
 -- What an accepted split has met. Assumes nothing.
 use Rattle.std.proofs.Common.{◌≡◌, ℕ, ◌<◌, ◌≤◌, false, ltb, List, length, Ok, Err, arith}
-use Rattle.std.specs.List.{AllByRecursion as All}
+use Rattle.std.specs.List.{AllByRecursion}
 use Rattle.std.proofs.ByRecursion.{All-weaker, sum_by_le}
 use Rattle.std.proofs.lemmas.Bool.{ltb-false}
 use Rattle.split.specs.declared.bearer.Stake.{Stake}
@@ -11,7 +11,7 @@ use Rattle.split.specs.Shares.{all_weights}
 use Rattle.rows.proofs.Counts.{none_passes}
 
 -- no bearer is too heavy: each weight is within the limit
-pub light_each : (xs : List Stake) → too_heavy xs ≡ 0 → All (λ x. x.weight ≤ 9000000000) xs
+pub light_each : (xs : List Stake) → too_heavy xs ≡ 0 → AllByRecursion (λ x. x.weight ≤ 9000000000) xs
 light_each xs e = All-weaker (λ x. ltb 9000000000 x.weight ≡ false) (λ x. x.weight ≤ 9000000000) (λ x h. ltb-false 9000000000 x.weight h) xs (none_passes (λ x. ltb 9000000000 x.weight) xs e)
 
 -- few bearers, each within the limit, weigh little together

@@ -2,7 +2,7 @@
 use Rattle.std.proofs.Common.{◌≡◌, ℕ, ◌+◌, ◌-◌, ◌*◌, ◌/◌, ◌<◌, ◌≤◌, true, false, eqb, ltb, ◌⊎◌, List, [], ◌∷◌, map, length, sum_by, count_by, sym, refl, ap, ◌∙◌, inl, inr, ⊎_elim, mod-lt, mul_comm, add-mul, lt_of_mul-lt-mul_right, mul-le-mul_left, mul-zero, div-add-mod', zero-mul, arith}
 use native.Mathlib.Nat.{zero-div}
 use Rattle.std.specs.List.Sorted.{IsPermutation}
-use Rattle.std.specs.List.{AllByRecursion as All}
+use Rattle.std.specs.List.{AllByRecursion}
 use Rattle.std.proofs.ByRecursion.{All-weaker, All-map}
 use Rattle.std.proofs.lemmas.List.Sorted.{sum_by-IsPermutation, length_permutation}
 use Rattle.std.proofs.lemmas.List.Sums.{sum_by-cons, count_by-le-length}
@@ -37,9 +37,9 @@ told_by_code a b e =
 
 abbrev Apart : List Stake → Type 0
 Apart [] = Unit {0}
-Apart (x ∷ xs) = All (λ y. eqb y.code x.code ≡ false) xs × Apart xs
+Apart (x ∷ xs) = AllByRecursion (λ y. eqb y.code x.code ≡ false) xs × Apart xs
 
-once_apart : (xs : List Stake) → All (λ x. with_code x.code xs ≤ 1) xs → Apart xs
+once_apart : (xs : List Stake) → AllByRecursion (λ x. with_code x.code xs ≤ 1) xs → Apart xs
 once_apart [] h = tt
 once_apart (x ∷ xs) h =
     let own = sum_by-cons (λ (y : Stake). bit (eqb y.code x.code)) x xs in

@@ -1,6 +1,6 @@
 -- Ranks in a strict order that tells the elements of a list apart: just n of them have a rank below n. Assumes nothing.
 use Rattle.std.proofs.Common.{◌≡◌, ℕ, ◌+◌, ◌-◌, ◌<◌, ◌≤◌, min, Bool, true, false, ltb, ◌⊎◌, List, [], ◌∷◌, length, count_by, sym, refl, ap, ◌∙◌, inl, inr, ⊎_elim, arith}
-use Rattle.std.specs.List.{ContainsAt as Has, AllByRecursion as All}
+use Rattle.std.specs.List.{ContainsAt as Has, AllByRecursion}
 use Rattle.std.proofs.ByRecursion.{All-weaker, all_has_itself}
 use Rattle.std.proofs.lemmas.List.Sums.{sum_by-cons, count_by-le-length}
 use Rattle.std.proofs.lemmas.Bool.{cases_lt, lt-ltb, le-ltb, both_ways}
@@ -9,7 +9,7 @@ use Rattle.rows.proofs.Counts.{all_of, bit, bit_below, fewer, strictly_fewer, su
 -- each element of the list stands before or after every other
 abbrev pub Told : {X : Type 0} → (X → X → Bool) → List X → Type 0
 Told lt [] = Unit {0}
-Told lt (x ∷ xs) = All (λ y. (lt x y ≡ true) ⊎ (lt y x ≡ true)) xs × Told lt xs
+Told lt (x ∷ xs) = AllByRecursion (λ y. (lt x y ≡ true) ⊎ (lt y x ≡ true)) xs × Told lt xs
 
 -- a strict order
 pub record Strict {X : Type 0} (lt : X → X → Bool) : Type 0 where
@@ -66,7 +66,7 @@ module _ {X : Type 0} (lt : X → X → Bool) (o : Strict lt) where
       let over = rank_over xs x a has h in
       ap bit (lt-ltb (rank_in lt (a ∷ xs) x) n (omega arith)) ∙ sym (ap bit (lt-ltb (rank_in lt xs x) (n - 1) (omega arith)))
 
-  both_all : (P Q : X → Type 0) (xs : List X) → All P xs → All Q xs → All (λ x. P x × Q x) xs
+  both_all : (P Q : X → Type 0) (xs : List X) → AllByRecursion P xs → AllByRecursion Q xs → AllByRecursion (λ x. P x × Q x) xs
   both_all P Q [] p q = tt
   both_all P Q (x ∷ xs) p q = ((p.0, q.0), both_all P Q xs p.1 q.1)
 

@@ -1,6 +1,6 @@
 -- The steps of a split, from the tested row to its reasons and shares. Assumes nothing.
 use Rattle.std.proofs.Common.{◌≡◌, ℕ, ◌-◌, ◌≤◌, List, ◌++◌, map, length, take, drop, sym, refl, ap, ◌∙◌, arith}
-use Rattle.std.specs.List.{AllByRecursion as All}
+use Rattle.std.specs.List.{AllByRecursion}
 use Rattle.std.proofs.ByRecursion.{All-from_get_or}
 use Rattle.std.proofs.lemmas.List.{length-map, take_at}
 use Rattle.std.proofs.lemmas.List.Sums.{get_or-le-sum_by}
@@ -21,7 +21,7 @@ row_is sum total n xs table rest many weighs written =
     ∙ ap (λ t. map (divide sum t) xs) weighs
 
 -- no whole part is above all of them
-pub wholes_small : (row : List Division) (most : ℕ) → wholes row ≤ most → All (λ d. d.whole ≤ most) row
+pub wholes_small : (row : List Division) (most : ℕ) → wholes row ≤ most → AllByRecursion (λ d. d.whole ≤ most) row
 wholes_small row most small =
     All-from_get_or (λ d. d.whole ≤ most) row blank_division
     (λ i within. omega (arith, small, get_or-le-sum_by (λ (d : Division). d.whole) row i blank_division within))

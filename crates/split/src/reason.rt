@@ -1,6 +1,6 @@
 // Why a bearer gets its share: every number that the rule looks at.
 ghost use Rattle.std.specs.Prelude.{◌≡◌, ◌≤◌, ◌++◌, map, length, drop};
-ghost use Rattle.std.specs.List.{AllByRecursion as All};
+ghost use Rattle.std.specs.List.{AllByRecursion};
 ghost use Rattle.split.specs.Reasons.{reckon};
 
 use crate::division::Division;
@@ -54,7 +54,7 @@ fn reckoned(total: u64, odd: u64, row: &[Division], division: Division) -> Reaso
 
 // The reasons of a whole row, one for each place from the first on; spare places stay.
 pub(crate) fn reckon_all(total: u64, odd: u64, row: &[Division], reasons: &mut [Reason])
-    requires light { All (λ d. d.whole ≤ 1000000000) row.now }
+    requires light { AllByRecursion (λ d. d.whole ≤ 1000000000) row.now }
     requires room { length row.now ≤ length reasons.old }
     ensures { reasons.new ≡ map (reckon total odd row.now) row.now ++ drop (length row.now) reasons.old }
 {

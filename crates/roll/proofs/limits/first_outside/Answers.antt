@@ -1,4 +1,4 @@
-use Rattle.std.proofs.Common.{◌≡◌, ℕ, ◌+◌, ◌*◌, ◌<◌, ◌≤◌, List, Some, refl, ap, ◌∙◌, mul-le-mul_left, mul-zero, mul-one, mul-add, arith, rules}
+use Rattle.std.proofs.Common.{◌≡◌, ℕ, ◌+◌, ◌*◌, ◌<◌, ◌≤◌, Some, refl, ap, ◌∙◌, mul-le-mul_left, mul-zero, mul-one, mul-add, arith, rules}
 use Rattle.roll.proofs.Finding.{found_here, not_here, nowhere}
 use Rattle.roll.proofs.limits.first_outside.Goals as goal
 

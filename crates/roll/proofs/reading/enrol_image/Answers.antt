@@ -1,6 +1,5 @@
-use Rattle.std.proofs.Common.{◌≡◌, List, length, None, sym, refl, ap, ◌∙◌, subst}
-use Rattle.std.specs.List.{AllByRecursion as All}
-use Rattle.image.specs.declared.record.AccountRecord.{AccountRecord}
+use Rattle.std.proofs.Common.{◌≡◌, length, None, sym, refl, ap, ◌∙◌, subst}
+use Rattle.std.specs.List.{AllByRecursion}
 use Rattle.image.specs.Layout.{records_of}
 use Rattle.roll.specs.Limits.{account_fault}
 use Rattle.roll.proofs.Enrolling.{faultless_accounts, stands_as_enrolled}
@@ -9,7 +8,7 @@ use Rattle.roll.proofs.reading.enrol_image.Goals as goal
 pub open_all-requires : goal.open_all-requires
 open_all-requires c = record {
   room = c.accounts.ensures.at_most_128;
-  faultless = subst (All (λ a. account_fault a ≡ None)) (sym c.accounts.ensures.are_its_accounts) (faultless_accounts (records_of c.args.image.now) c.requires);
+  faultless = subst (AllByRecursion (λ a. account_fault a ≡ None)) (sym c.accounts.ensures.are_its_accounts) (faultless_accounts (records_of c.args.image.now) c.requires);
 }
 
 pub returns : goal.returns

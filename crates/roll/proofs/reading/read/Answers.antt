@@ -1,4 +1,4 @@
-use Rattle.std.proofs.Common.{◌≡◌, None, Ok, sym, ap, ◌∙◌, subst}
+use Rattle.std.proofs.Common.{Ok, sym, ap, ◌∙◌, subst}
 use Rattle.image.specs.Layout.{records_of}
 use Rattle.roll.specs.Limits.{admitted, roll_read, roll_bytes, field_fault}
 use Rattle.roll.specs.Read.{WithinLimits}

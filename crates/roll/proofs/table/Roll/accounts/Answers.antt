@@ -1,4 +1,4 @@
-use Rattle.std.proofs.Common.{◌≡◌, map, length, take, sym, ap, ◌∙◌, arith, rules}
+use Rattle.std.proofs.Common.{◌≡◌, map, length, sym, ap, ◌∙◌, arith, rules}
 use Rattle.rows.proofs.Rows.{up_to_count}
 use Rattle.std.proofs.lemmas.List.{length-map, length-take}
 use Rattle.roll.specs.Standing.{balance_of, standing}

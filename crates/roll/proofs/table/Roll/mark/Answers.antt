@@ -1,4 +1,4 @@
-use Rattle.std.proofs.Common.{◌≡◌, map, length, take, ap, arith}
+use Rattle.std.proofs.Common.{map, length, take, ap, arith}
 use Rattle.std.proofs.lemmas.List.{length-take}
 use Rattle.roll.specs.Standing.{balance_of, standing}
 use Rattle.roll.proofs.Marking.{marked_within, marked_beyond, parts}

@@ -1,4 +1,4 @@
-use Rattle.std.proofs.Common.{◌≡◌, length, take, ap, arith, rules}
+use Rattle.std.proofs.Common.{◌≡◌, length, ap, arith, rules}
 use Rattle.rows.proofs.Rows.{up_to_count}
 use Rattle.std.proofs.lemmas.List.{length-take}
 use Rattle.roll.specs.Standing.{standing}
