@@ -1,5 +1,5 @@
 -- What a roll that is admitted has met: a book can hold it. Assumes nothing.
-use Rattle.std.proofs.Common.{◌≡◌, ℕ, ◌<◌, Bool, false, eqb, ltb, map, length, get_or, Some, None, Ok, Err, Option, Result, refl, ap, ◌∙◌, arith}
+use Rattle.std.proofs.Common.{◌≡◌, ℕ, ◌<◌, false, eqb, ltb, Some, None, Ok, Err, Option, Result, refl, arith}
 use Rattle.rows.proofs.Counts.{none_twice, none_by_number}
 use Rattle.roll.specs.declared.participant.Participant.{Participant}
 use Rattle.roll.specs.Holdable.{Holdable}

@@ -1,15 +1,15 @@
 -- What every book keeps makes its roll one that a book can hold. Assumes nothing.
-use Rattle.std.proofs.Common.{◌≡◌, ℕ, ◌+◌, ◌≤◌, Bool, true, false, cond, eqb, ltb, List, [], ◌∷◌, length, sum, ap, arith}
+use Rattle.std.proofs.Common.{◌≡◌, ℕ, ◌+◌, ◌≤◌, Bool, true, false, cond, eqb, ltb, List, [], ◌∷◌, length, sum, arith}
 use Rattle.std.proofs.lemmas.List.Sums.{sum_by-cons}
 use Rattle.std.proofs.lemmas.Bool.{ltb-true, lt-ltb}
 use Rattle.rows.proofs.Counts.{all_of, bit, bit_below, sum_by-below}
 use Rattle.roll.specs.declared.participant.Participant.{Participant}
 use Rattle.roll.specs.Holdable.{Holdable, participants_above}
-use Rattle.roll.specs.Standing.{Balance, Standing, standing, held_by, money_of}
+use Rattle.roll.specs.Standing.{Balance, standing, held_by, money_of}
 use Rattle.book.specs.declared.parts.Outstanding.{Outstanding}
 use Rattle.basis.specs.declared.basis.Basis.{Ghosts}
 use Rattle.book.specs.declared.state.Book.{Book}
-use Rattle.book.specs.Holdings.{Holding, holdings, stake_by, stake_of, staked_above}
+use Rattle.book.specs.Holdings.{holdings, stake_by, stake_of, staked_above}
 
 -- what an account holds is at stake
 held_at_stake : (code : ℕ) (a : Balance) (row : Outstanding) → held_by code a ≤ stake_by code record { account = a; outstanding = row.by_declaration }

@@ -1,5 +1,5 @@
-use Rattle.std.proofs.Common.{◌≡◌, ◌+◌, ◌*◌, sym, ap, ◌∙◌, subst}
-use Rattle.book.specs.Faults.{number_of, place_of}
+use Rattle.std.proofs.Common.{◌+◌, ◌*◌, sym, ap, ◌∙◌, subst}
+use Rattle.book.specs.Faults.{number_of}
 use Rattle.book.specs.Opening.{opening, check_value, Tells}
 use Rattle.book.proofs.Telling.{tells}
 use Rattle.book.proofs.opening.allocation_book_check.Goals as goal

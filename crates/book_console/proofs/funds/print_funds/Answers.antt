@@ -1,5 +1,4 @@
 use Rattle.std.proofs.Common.{◌++◌, string_bytes, sym, ap, ◌∙◌}
-use Rattle.std.specs.List.{flat_map}
 use Rattle.roll.specs.declared.account.Account.{Account}
 use Rattle.roll.specs.Standing.{balance_of}
 use Rattle.book_console.specs.Lines.{funds_line}
