@@ -1,3 +1,4 @@
+-- A lemma for the laws of the commitment basis, which an `impl` gives in the code: such a lemma stands in specs/. Assumes nothing.
 use Rattle.std.specs.Prelude.{◌≡◌, ◌≤◌, false}
 use Rattle.std.proofs.Common.{arith}
 use Rattle.std.proofs.lemmas.Bool.Decides.{nat_tests}
