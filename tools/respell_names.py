@@ -1,7 +1,8 @@
 #!/usr/bin/env python3
 """Respells the definitions and lemmas of this repository as today's library spells its own: facts and records in upper camel
 case, all else in snake case, where the older spelling joined words by dashes. A dash stays where it joins the names of two
-functions, as in `sum_by-map`. It was run once, after port.py, and is kept to show that nothing but the spelling changed.
+functions, as in `sum_by-map`. It was run once, after port.py, and is kept to show that nothing but the spelling changed. It refuses
+a tree that has its spelling already, where it would take such a dash for one between words.
 
 usage: tools/respell_names.py          at the top: rewrites crates/*/specs, crates/*/proofs and the ghost lines of crates/*/src
        tools/respell_names.py --list   prints each name, its new spelling, and the names that fall together
@@ -25,6 +26,10 @@ DEFINED = re.compile(r"^\s*(?:(?:pub|abbrev|unfoldable|record|data)\s+)*(" + WOR
 ALIAS = re.compile(r"\bas (" + WORD + r")")
 LABEL = re.compile(r"^\s*(?:ensures|requires|ghost) ([a-z]\w*_\w*)\b", re.M)
 LOCAL = re.compile(r"(?:\blet |λ \(?|[( ])(" + WORD + r") (?::|=) ")
+
+
+def whole(name):
+    return re.compile(r"(?<![\w'\-])" + re.escape(name) + r"(?![\w'\-])")
 
 
 def files():
@@ -75,6 +80,8 @@ def turned(path, text, names):
 
 def main():
     texts = {path: open(path, encoding="utf-8").read() for path in files()}
+    if any(new != old and whole(new).search(text) for old, new in KEPT.items() for text in texts.values()):
+        sys.exit("respell_names: these files have the new spelling already; nothing was changed")
     names = gather(texts)
     if "--list" in sys.argv[1:]:
         taken = set()
