@@ -12,18 +12,6 @@ use Rattle.image.specs.Layout.{number_at, number_bytes}
 pub bytes_under : (bytes : List ℕ) → ((i : ℕ) → Fits w8 (get_or bytes i 0)) → AllBelowBase 256 bytes
 bytes_under bytes fit = All-from_get_or (λ b. b < 256) bytes 0 (λ i h. omega (arith, fit i))
 
--- at most so many bytes, at most so large a number
-pub number_below : (n : ℕ) (bytes : List ℕ) → AllBelowBase 256 bytes → length bytes ≤ n → number_from_digits 256 bytes < 256 ^ n
-number_below n bytes under few =
-    let wide : 256 ^ length bytes ≤ 256 ^ n = pow-le-pow_right (omega arith) few in
-    omega (arith, number_lt 256 bytes under)
-
--- one byte is the number that it is
-pub one_byte : (bytes : List ℕ) (at : ℕ) → at < length bytes → number_at at 1 bytes ≡ get_or bytes at 0
-one_byte bytes at within =
-    ap (λ l. number_from_digits 256 (take 1 l)) (drop_more bytes at 0 within)
-    ∙ (let once : 0 * 256 + get_or bytes at 0 ≡ get_or bytes at 0 = omega arith in once)
-
 -- the bytes of the number that bytes are
 module _ (bytes : List ℕ) (under : AllBelowBase 256 bytes) where
   taken : (n : ℕ) → n ≤ length bytes → number_bytes n (number_from_digits 256 (take n bytes)) ≡ take n bytes

@@ -7,80 +7,49 @@ ghost use Rattle.image.specs.Head.{counts_of};
 ghost use Rattle.image.specs.Layout.{participant_at as participant_defined, account_at as account_defined, participant_place, account_place, records_of, bytes_of, FewRecords};
 
 use crate::fault::ImageFault;
-use crate::number::{byte_at, long_at, word_at};
 use crate::record::{AccountRecord, ParticipantRecord};
+use crate::stored::Stored;
 use crate::tables::{Image, MOST_ACCOUNTS, MOST_PARTICIPANTS};
 
 // The version that is read.
 const VERSION: u8 = 1;
-// The bytes of a head, of a participant and of an account.
-const HEAD: usize = 7;
-
-const PARTICIPANT: usize = 21;
-
-const ACCOUNT: usize = 24;
+// The bytes of a head.
+pub const HEAD: usize = 7;
 
 // How many records an image has.
-#[derive(Clone, Copy)]
+#[derive(Clone, Copy, Debug, PartialEq, Eq)]
 struct Counts {
     participants: usize,
     accounts: usize,
 }
 
 // Tests the head, in the order of the faults, and answers how many records follow.
+#[tactic(auto, using(std::proofs::lemmas::Bool::Decides::nat_tests), unfolding(crate::specs::Faults::head_fault))]
 fn counted(bytes: &[u8]) -> Result<Counts, ImageFault>
     ensures { result ≡ unless (head_fault bytes.now) (counts_of bytes.now) }
 {
     if bytes.len() < HEAD {
         return Err(ImageFault::Short);
     }
-    if byte_at(bytes, 0) != VERSION {
+    if u8::read_at(bytes, 0) != VERSION {
         return Err(ImageFault::Version);
     }
-    let participants = byte_at(bytes, 5) as usize;
-    if participants < 1 || participants > MOST_PARTICIPANTS {
+    let participants = usize::from(u8::read_at(bytes, 5));
+    if !(1..=MOST_PARTICIPANTS).contains(&participants) {
         return Err(ImageFault::Participants);
     }
-    let accounts = byte_at(bytes, 6) as usize;
+    let accounts = usize::from(u8::read_at(bytes, 6));
     if accounts > MOST_ACCOUNTS {
         return Err(ImageFault::Accounts);
     }
-    let stated = word_at(bytes, 1) as usize;
-    if stated != bytes.len() || stated != HEAD + PARTICIPANT * participants + ACCOUNT * accounts {
+    let stated = u32::read_at(bytes, 1) as usize;
+    if stated != bytes.len() || stated != HEAD + ParticipantRecord::WIDTH * participants + AccountRecord::WIDTH * accounts {
         return Err(ImageFault::Length);
     }
     Ok(Counts {
         participants,
         accounts,
     })
-}
-
-// The participant whose first byte stands at a place.
-fn participant_at(bytes: &[u8], at: usize) -> ParticipantRecord
-    requires { at + 21 ≤ length bytes.now }
-    ensures { result ≡ participant_defined bytes.now at }
-{
-    ParticipantRecord {
-        code: word_at(bytes, at),
-        futures: word_at(bytes, at + 4),
-        otc: word_at(bytes, at + 8),
-        margin: word_at(bytes, at + 12),
-        adjusted: word_at(bytes, at + 16),
-        scope: byte_at(bytes, at + 20),
-    }
-}
-
-// The account whose first byte stands at a place.
-fn account_at(bytes: &[u8], at: usize) -> AccountRecord
-    requires { at + 24 ≤ length bytes.now }
-    ensures { result ≡ account_defined bytes.now at }
-{
-    AccountRecord {
-        code: word_at(bytes, at),
-        owner: word_at(bytes, at + 4),
-        funds: long_at(bytes, at + 8),
-        overnight: long_at(bytes, at + 16),
-    }
 }
 
 // The participants, one for each place from the first on.
@@ -90,7 +59,7 @@ fn read_participants(bytes: &[u8], count: usize, table: &mut [ParticipantRecord]
     ensures { table.new ≡ map (λ i. participant_defined bytes.now (participant_place i)) (range_with_len 0 count) ++ drop count table.old }
 {
     for i in 0..count {
-        table[i] = participant_at(bytes, HEAD + PARTICIPANT * i);
+        table[i] = ParticipantRecord::read_at(bytes, HEAD + ParticipantRecord::WIDTH * i);
     }
 }
 
@@ -101,7 +70,7 @@ fn read_accounts(bytes: &[u8], participants: usize, count: usize, table: &mut [A
     ensures { table.new ≡ map (λ i. account_defined bytes.now (account_place participants i)) (range_with_len 0 count) ++ drop count table.old }
 {
     for i in 0..count {
-        table[i] = account_at(bytes, HEAD + PARTICIPANT * participants + ACCOUNT * i);
+        table[i] = AccountRecord::read_at(bytes, HEAD + ParticipantRecord::WIDTH * participants + AccountRecord::WIDTH * i);
     }
 }
 

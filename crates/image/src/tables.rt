@@ -4,9 +4,9 @@ ghost use Rattle.std.specs.Prelude.{◌≤◌};
 use crate::record::{AccountRecord, ParticipantRecord};
 
 // The most participants and the most accounts of an image.
-pub(crate) const MOST_PARTICIPANTS: usize = 64;
+pub const MOST_PARTICIPANTS: usize = 64;
 
-pub(crate) const MOST_ACCOUNTS: usize = 128;
+pub const MOST_ACCOUNTS: usize = 128;
 
 // The first records of each table, as many as are counted, are the image's.
 #[derive(Clone, Copy)]

@@ -62,7 +62,7 @@ impl Roll {
     pub fn money_of(&self, code: u32) -> u64
         ensures is_all_that_its_accounts_hold { result ≡ money_of code (standing self.now).accounts }
     {
-        money_in(code, self.accounts())
+        self.accounts().iter().map(|account| held(code, account)).sum()
     }
 }
 
@@ -75,16 +75,4 @@ fn held(code: u32, account: &Account) -> u64
     } else {
         0
     }
-}
-
-// What those accounts that belong to the participant with this code hold together.
-fn money_in(code: u32, accounts: &[Account]) -> u64
-    requires { length accounts.now ≤ 128 }
-    ensures { result ≡ money_of code (map balance_of accounts.now) }
-{
-    let mut money = 0;
-    for account in accounts {
-        money += held(code, account);
-    }
-    money
 }

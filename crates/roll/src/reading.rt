@@ -12,25 +12,18 @@ use crate::fault::RollFault;
 use crate::limits::first_outside;
 use crate::participant::Participant;
 use crate::table::{MOST_ACCOUNTS, MOST_PARTICIPANTS, Roll};
-use image::{AccountRecord, Image, ParticipantRecord};
-
-// The bytes of an image's head, of a participant and of an account.
-const HEAD: u16 = 7;
-
-const PARTICIPANT: u16 = 21;
-
-const ACCOUNT: u16 = 24;
+use image::{AccountRecord, HEAD, Image, ParticipantRecord};
 
 // Tests every field, in the order of the image.
 fn tested(image: &Image) -> Result<(), RollFault>
     ensures { result ≡ told (field_fault (records_of image.now)) }
 {
     let participants = image.participants();
-    if let Some(place) = first_outside(participants, PARTICIPANT, HEAD) {
+    if let Some(place) = first_outside(participants, HEAD) {
         return Err(RollFault::Field(place));
     }
-    let first = HEAD + PARTICIPANT * participants.len() as u16;
-    if let Some(place) = first_outside(image.accounts(), ACCOUNT, first) {
+    let first = HEAD + ParticipantRecord::WIDTH * participants.len();
+    if let Some(place) = first_outside(image.accounts(), first) {
         return Err(RollFault::Field(place));
     }
     Ok(())

@@ -5,8 +5,8 @@ use Rattle.image.proofs.reading.read_accounts.Goals as goal
 
 pub loop-i-preserved : goal.loop-i-preserved
 loop-i-preserved c =
-    ap (λ l. set l c.loop-i.i c.account_at.result) c.loop-i.invariant
-    ∙ placed_more (λ i. account_at c.args.bytes.now (account_place c.args.participants i)) c.args.count c.args.table.now c.loop-i.i c.account_at.result c.loop-i-test.true (omega arith) c.account_at.ensures
+    ap (λ l. set l c.loop-i.i c.read_at.result) c.loop-i.invariant
+    ∙ placed_more (λ i. account_at c.args.bytes.now (account_place c.args.participants i)) c.args.count c.args.table.now c.loop-i.i c.read_at.result c.loop-i-test.true (omega arith) c.read_at.ensures
 
 pub returns : goal.returns
 returns c =
