@@ -3,7 +3,7 @@ use Rattle.std.proofs.Common.{◌≡◌, ℕ, ◌+◌, ◌-◌, ◌<◌, ◌≤�
 use mir.Val.{bool_byte}
 use Rattle.std.specs.List.{range_with_len}
 use Rattle.std.proofs.lemmas.List.FromFn.{length-range_with_len, get_or-range_with_len}
-use Rattle.std.proofs.lemmas.List.{map_more, take_all, take_at, drop_more, length-map, length-take-le, set_at, append_assoc}
+use Rattle.std.proofs.lemmas.List.{map_more, take_all, take_at, drop_more, drop_all, length-map, length-take-le, set_at, append_assoc}
 use Rattle.std.proofs.lemmas.Bool.{cases_lt}
 use Rattle.std.proofs.lemmas.List.Sums.{sum_by_more, sum_by-take-le}
 
@@ -88,6 +88,21 @@ module _ {Y : Type 0} (f : ℕ → Y) (n : ℕ) (old : List Y) where
   placed_all i is =
       filled_all f (range_with_len 0 n) old i (omega (arith, length-range_with_len 0 n))
       ∙ ap (λ k. map f (range_with_len 0 n) ++ drop k old) (length-range_with_len 0 n)
+
+-- what is written of a row into places, as far as both go
+pub as_far_as_both : {X Y : Type 0} (f : X → Y) (xs : List X) (old : List Y) (n : ℕ) → n ≡ min (length xs) (length old) →
+    map f (take n xs) ++ drop (length (take n xs)) old ≡ map f (take (length old) xs) ++ drop (length xs) old
+as_far_as_both f xs old n is =
+    ⊎_elim
+    (λ (lt : length xs < length old).
+    let all = take_all n xs (omega arith) in
+    ap (λ l. map f l ++ drop (length l) old) all ∙ ap (λ l. map f l ++ drop (length xs) old) (sym (take_all (length old) xs (omega arith))))
+    (λ (ge : length old ≤ length xs).
+    let same : n ≡ length old = omega arith in
+    ap (λ k. map f (take k xs) ++ drop (length (take k xs)) old) same
+    ∙ ap (λ k. map f (take (length old) xs) ++ drop k old) (length-take-le (length old) xs ge)
+    ∙ ap (λ l. map f (take (length old) xs) ++ l) (drop_all (length old) old (omega arith) ∙ sym (drop_all (length xs) old ge)))
+    (cases_lt (length xs) (length old))
 
 -- what stands in a table up to its count, once so many places are written
 pub written_part : {Y : Type 0} (new rest : List Y) (n : ℕ) (table : List Y) → length new ≡ n → table ≡ new ++ rest → take n table ≡ new

@@ -1,2 +1,10 @@
-// Lemmas on rows: sums, counts and tables that are filled place by place. No code: the crates above import the proofs.
+// Rows of records in places of a fixed number: what fills them, and the lemmas about sums, counts and rows that are filled.
 #![tactic(auto)]
+
+mod access;
+mod filling;
+mod making;
+mod table;
+
+pub use filling::fill;
+pub use table::Table;
