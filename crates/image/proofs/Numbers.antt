@@ -1,11 +1,10 @@
 -- Numbers of several bytes, and the bytes of a number. Assumes nothing.
-use Rattle.std.proofs.Common.{◌≡◌, ℕ, zero, suc, ◌+◌, ◌*◌, ◌/◌, ◌%◌, ◌^◌, ◌<◌, ◌≤◌, List, [], ◌∷◌, ◌++◌, length, get_or, take, drop, sym, refl, ap, ◌∙◌, add-one, arith, w8, Fits}
-use native.Mathlib.Nat.{pow-le-pow_right}
+use Rattle.std.proofs.Common.{◌≡◌, ℕ, zero, suc, ◌+◌, ◌*◌, ◌/◌, ◌%◌, ◌<◌, ◌≤◌, List, [], ◌∷◌, ◌++◌, length, get_or, take, drop, sym, refl, ap, ◌∙◌, add-one, arith, w8, Fits}
 use lib.Arith.{digits_div, digits_mod}
 use Rattle.std.specs.Int.Digits.{number_from_digits, AllBelowBase}
-use Rattle.std.proofs.lemmas.Int.Digits.{number_lt, number_more}
+use Rattle.std.proofs.lemmas.Int.Digits.{number_more}
 use Rattle.std.proofs.ByRecursion.{All-from_get_or, All-get_or, All-take, All-drop}
-use Rattle.std.proofs.lemmas.List.{length-take-le, length-drop, take_all, take_more, drop_more}
+use Rattle.std.proofs.lemmas.List.{length-take-le, length-drop, take_all, take_more}
 use Rattle.image.specs.Layout.{number_at, number_bytes}
 
 -- bytes are below 256

@@ -1,15 +1,17 @@
 // Reading an image.
-ghost use Rattle.std.specs.Prelude.{◌≡◌, ◌+◌, ◌*◌, ◌≤◌, ◌++◌, map, length, drop, IfOk};
+ghost use Rattle.std.specs.Prelude.{◌≡◌, ◌+◌, ◌*◌, ◌≤◌, min, map, length, IfOk};
 ghost use Rattle.std.specs.List.{range_with_len};
 ghost use Rattle.std.specs.Result.{result_map_both};
 ghost use Rattle.image.specs.Faults.{head_fault, unless, image_of};
 ghost use Rattle.image.specs.Head.{counts_of};
-ghost use Rattle.image.specs.Layout.{participant_at as participant_defined, account_at as account_defined, participant_place, account_place, records_of, bytes_of, FewRecords};
+ghost use Rattle.image.specs.Layout.{length_for, records_of, bytes_of, FewRecords};
+ghost use Rattle.rows.specs.Tables.{records};
 
 use crate::fault::ImageFault;
 use crate::record::{AccountRecord, ParticipantRecord};
 use crate::stored::Stored;
 use crate::tables::{Image, MOST_ACCOUNTS, MOST_PARTICIPANTS};
+use rows::Table;
 
 // The version that is read.
 const VERSION: u8 = 1;
@@ -26,7 +28,10 @@ struct Counts {
 // Tests the head, in the order of the faults, and answers how many records follow.
 #[tactic(auto, using(std::proofs::lemmas::Bool::Decides::nat_tests), unfolding(crate::specs::Faults::head_fault))]
 fn counted(bytes: &[u8]) -> Result<Counts, ImageFault>
-    ensures { result ≡ unless (head_fault bytes.now) (counts_of bytes.now) }
+    ensures as_defined { result ≡ unless (head_fault bytes.now) (counts_of bytes.now) }
+    ensures few_participants { IfOk result (λ counts. counts.participants ≤ 64) }
+    ensures few_accounts { IfOk result (λ counts. counts.accounts ≤ 128) }
+    ensures length_is_stated { IfOk result (λ counts. length bytes.now ≡ length_for counts.participants counts.accounts) }
 {
     if bytes.len() < HEAD {
         return Err(ImageFault::Short);
@@ -43,7 +48,10 @@ fn counted(bytes: &[u8]) -> Result<Counts, ImageFault>
         return Err(ImageFault::Accounts);
     }
     let stated = u32::read_at(bytes, 1) as usize;
-    if stated != bytes.len() || stated != HEAD + ParticipantRecord::WIDTH * participants + AccountRecord::WIDTH * accounts {
+    if stated != bytes.len()
+        || stated
+            != HEAD + ParticipantRecord::WIDTH * participants + AccountRecord::WIDTH * accounts
+    {
         return Err(ImageFault::Length);
     }
     Ok(Counts {
@@ -52,26 +60,23 @@ fn counted(bytes: &[u8]) -> Result<Counts, ImageFault>
     })
 }
 
-// The participants, one for each place from the first on.
-fn read_participants(bytes: &[u8], count: usize, table: &mut [ParticipantRecord])
-    requires long { 7 + 21 * count ≤ length bytes.now }
-    requires room { count ≤ length table.old }
-    ensures { table.new ≡ map (λ i. participant_defined bytes.now (participant_place i)) (range_with_len 0 count) ++ drop count table.old }
+// The table of so many records, one behind the other, the first of which begins at a place.
+fn table_at<R: Stored + Copy, const N: usize>(
+    bytes: &[u8],
+    first: usize,
+    count: usize,
+    blank: R,
+) -> Table<R, N>
+    requires { first + R.WIDTH * count ≤ length bytes.now }
+    ensures { records result ≡ map (λ i. R.stored_at bytes.now (first + R.WIDTH * i)) (range_with_len 0 (min count N)) }
 {
-    for i in 0..count {
-        table[i] = ParticipantRecord::read_at(bytes, HEAD + ParticipantRecord::WIDTH * i);
-    }
-}
-
-// The accounts, which follow the participants, one for each place from the first on.
-fn read_accounts(bytes: &[u8], participants: usize, count: usize, table: &mut [AccountRecord])
-    requires long { 7 + 21 * participants + 24 * count ≤ length bytes.now }
-    requires room { count ≤ length table.old }
-    ensures { table.new ≡ map (λ i. account_defined bytes.now (account_place participants i)) (range_with_len 0 count) ++ drop count table.old }
-{
-    for i in 0..count {
-        table[i] = AccountRecord::read_at(bytes, HEAD + ParticipantRecord::WIDTH * participants + AccountRecord::WIDTH * i);
-    }
+    Table::tabulate(
+        count,
+        blank,
+        |i|
+            requires { first + R.WIDTH * i + R.WIDTH ≤ length bytes.now }
+        { R::read_at(bytes, first + R::WIDTH * i) },
+    )
 }
 
 // The records of an image, or what is wrong with its head.
@@ -81,14 +86,9 @@ pub fn read(bytes: &[u8]) -> Result<Image, ImageFault>
     ensures counts_are_within_limits { IfOk result (λ image. FewRecords (records_of image)) }
 {
     let counts = counted(bytes)?;
-    let mut participants = [ParticipantRecord::BLANK; MOST_PARTICIPANTS];
-    read_participants(bytes, counts.participants, &mut participants);
-    let mut accounts = [AccountRecord::BLANK; MOST_ACCOUNTS];
-    read_accounts(bytes, counts.participants, counts.accounts, &mut accounts);
+    let accounts = HEAD + ParticipantRecord::WIDTH * counts.participants;
     Ok(Image {
-        participants,
-        accounts,
-        participant_count: counts.participants,
-        account_count: counts.accounts,
+        participants: table_at(bytes, HEAD, counts.participants, ParticipantRecord::BLANK),
+        accounts: table_at(bytes, accounts, counts.accounts, AccountRecord::BLANK),
     })
 }
