@@ -1,6 +1,6 @@
 -- From the records of an image to a roll: what testing them answers, and what a roll without a fault has met. Assumes nothing.
 use Rattle.std.proofs.Common.{◌≡◌, ℕ, ◌+◌, ◌*◌, Bool, false, cond, eqb, List, [], ◌∷◌, ◌++◌, map, length, take, Some, None, Ok, Err, count_by, Option, sym, refl, ap, ◌∙◌, arith}
-use Rattle.std.specs.List.{AllByRecursion}
+use Rattle.std.specs.List.{AllByRecursion, AllZip}
 use Rattle.std.proofs.ByRecursion.{All-map, All-weaker}
 use Rattle.std.proofs.lemmas.List.{length-map, take-map}
 use Rattle.std.proofs.lemmas.Bool.Decides.{nat_tests}
@@ -8,7 +8,8 @@ use Rattle.image.specs.declared.record.AccountRecord.{AccountRecord}
 use Rattle.image.specs.declared.record.ParticipantRecord.{ParticipantRecord}
 use Rattle.image.specs.Layout.{Records, FewRecords, bytes_of, account_place}
 use Rattle.rows.proofs.Counts.{all_of, none_counted}
-use Rattle.rows.proofs.Rows.{map-map, written_part}
+use Rattle.rows.proofs.Rows.{map-map}
+use Rattle.rows.specs.Tables.{records as table_records}
 use Rattle.roll.specs.declared.participant.Participant.{Participant}
 use Rattle.roll.specs.declared.table.Roll.{Roll}
 use Rattle.roll.specs.declared.fault.RollFault.TheVariants.{Field}
@@ -16,6 +17,7 @@ use Rattle.roll.specs.Holdable.{participant_outside, account_outside}
 use Rattle.roll.specs.Limits.{participant_fault, account_fault, first_of, first_fault, field_fault, told, enrolled, enrolled_all, opening_balance, participant_record, account_record, roll_bytes}
 use Rattle.roll.specs.Read.{WithinLimits}
 use Rattle.roll.specs.Standing.{Balance, balance_of, standing}
+use Rattle.roll.specs.Standing.{balance_of, standing}
 use Rattle.roll.proofs.Marking.{parts}
 use Rattle.roll.proofs.Finding.{not_first, each_without}
 
@@ -101,14 +103,17 @@ roll_has_the_bytes r e =
     (map-map participant_record enrolled r.participants ∙ map_same (λ p. participant_record (enrolled p)) (λ p. participant_fault p ≡ None) participant_back r.participants (faultless_participants r e))
     ∙ ap (λ xs. bytes_of (records r.participants xs)) (map-map account_record opening_balance r.accounts ∙ map_same (λ a. a) (λ _. Unit {0}) (λ a h. refl) r.accounts (all_of (λ _. Unit {0}) (λ _. tt) r.accounts))
 
--- a roll whose tables were filled from the records
-module _ (r : Records) (roll : Roll) (participants : List ParticipantRecord) (accounts : List AccountRecord) (are : participants ≡ r.participants) (ares : accounts ≡ r.accounts) where
-  pub stands_as_enrolled : (spare : List Participant) (idle : List Balance) → roll.participant_count ≡ length participants → roll.account_count ≡ length accounts → roll.defaults ≡ 0
-      → roll.participants ≡ map enrolled participants ++ spare → map balance_of roll.accounts ≡ map opening_balance accounts ++ idle → standing roll ≡ enrolled_all r
-  unfolding standing
-  stands_as_enrolled spare idle ps as' none table held =
-      ap (λ l. parts l (map balance_of (take roll.account_count roll.accounts)) roll.defaults)
-      (written_part (map enrolled participants) spare roll.participant_count roll.participants (length-map participants enrolled ∙ sym ps) table ∙ ap (map enrolled) are)
-      ∙ ap (λ l. parts (map enrolled r.participants) l roll.defaults)
-      (sym (take-map balance_of roll.account_count roll.accounts) ∙ written_part (map opening_balance accounts) idle roll.account_count (map balance_of roll.accounts) (length-map accounts opening_balance ∙ sym as') held ∙ ap (map opening_balance) ares)
-      ∙ ap (parts (map enrolled r.participants) (map opening_balance r.accounts)) none
+-- what a view shows of what was made of each element
+pub viewed : {X Y V : Type 0} (R : X → Y → Type 0) (view : Y → V) (g : X → V) → ((x : X) (y : Y) → R x y → view y ≡ g x) → (xs : List X) (ys : List Y) → AllZip R xs ys → map view ys ≡ map g xs
+viewed R view g shows [] [] made = refl
+viewed R view g shows [] (y ∷ ys) made = absurd made
+viewed R view g shows (x ∷ xs) [] made = absurd made
+viewed R view g shows (x ∷ xs) (y ∷ ys) made = ap (λ v. v ∷ map view ys) (shows x y made.0) ∙ ap (λ l. g x ∷ l) (viewed R view g shows xs ys made.1)
+
+-- a roll whose tables show what the records give
+pub stands_as_enrolled : (r : Records) (roll : Roll) → table_records roll.participants ≡ map enrolled r.participants → map balance_of (table_records roll.accounts) ≡ map opening_balance r.accounts → roll.defaults ≡ 0 → standing roll ≡ enrolled_all r
+unfolding standing
+stands_as_enrolled r roll participants accounts none =
+    ap (λ l. parts l (map balance_of (table_records roll.accounts)) roll.defaults) participants
+    ∙ ap (λ l. parts (map enrolled r.participants) l roll.defaults) accounts
+    ∙ ap (parts (map enrolled r.participants) (map opening_balance r.accounts)) none

@@ -14,12 +14,10 @@ pub struct Account {
 
 impl Account {
     // What stands in a table's place before an account is written there.
-    pub(crate) fn blank() -> Account {
-        Account {
-            code: 0,
-            owner: 0,
-            funds: 0,
-            overnight: 0,
-        }
-    }
+    pub(crate) const BLANK: Account = Account {
+        code: 0,
+        owner: 0,
+        funds: 0,
+        overnight: 0,
+    };
 }

@@ -11,8 +11,9 @@ use crate::account::Account;
 use crate::fault::RollFault;
 use crate::limits::first_outside;
 use crate::participant::Participant;
-use crate::table::{MOST_ACCOUNTS, MOST_PARTICIPANTS, Roll};
+use crate::table::Roll;
 use image::{AccountRecord, HEAD, Image, ParticipantRecord};
+use rows::Table;
 
 // Tests every field, in the order of the image.
 fn tested(image: &Image) -> Result<(), RollFault>
@@ -29,31 +30,6 @@ fn tested(image: &Image) -> Result<(), RollFault>
     Ok(())
 }
 
-// The participant that a record enrols.
-fn enrol(source: &ParticipantRecord) -> Participant
-    ensures { result ≡ enrolled source.now }
-{
-    Participant {
-        code: source.code,
-        futures: source.futures,
-        otc: source.otc,
-        margin: source.margin,
-        adjusted: source.adjusted,
-        in_scope: source.scope == 1,
-        in_default: false,
-    }
-}
-
-// The participants, one for each place from the first on; spare places stay.
-fn enrol_all(records: &[ParticipantRecord], table: &mut [Participant])
-    requires { length records.now ≤ length table.old }
-    ensures { table.new ≡ map enrolled records.now ++ drop (length records.now) table.old }
-{
-    for i in 0..records.len() {
-        table[i] = enrol(&records[i]);
-    }
-}
-
 // The account that a record within its limits opens.
 fn open_account(source: &AccountRecord) -> Account
     requires { account_fault source.now ≡ no_fault }
@@ -67,31 +43,14 @@ fn open_account(source: &AccountRecord) -> Account
     }
 }
 
-// The accounts, one for each place from the first on; spare places stay.
-fn open_all(records: &[AccountRecord], table: &mut [Account])
-    requires room { length records.now ≤ length table.old }
-    requires faultless { AllByRecursion (λ r. account_fault r ≡ no_fault) records.now }
-    ensures { map balance_of table.new ≡ map opening_balance records.now ++ drop (length records.now) (map balance_of table.old) }
-{
-    for i in 0..records.len() {
-        table[i] = open_account(&records[i]);
-    }
-}
-
 // The roll of an image without a fault.
 fn enrol_image(image: &Image) -> Roll
     requires { field_fault (records_of image.now) ≡ no_fault }
     ensures { standing result ≡ enrolled_all (records_of image.now) }
 {
-    let mut participants = [Participant::BLANK; MOST_PARTICIPANTS];
-    enrol_all(image.participants(), &mut participants);
-    let mut accounts = [Account::blank(); MOST_ACCOUNTS];
-    open_all(image.accounts(), &mut accounts);
     Roll {
-        participants,
-        accounts,
-        participant_count: image.participants().len(),
-        account_count: image.accounts().len(),
+        participants: Table::from_row(image.participants(), Participant::BLANK, |record| Participant::from(*record)),
+        accounts: Table::from_row(image.accounts(), Account::BLANK, open_account),
         defaults: 0,
     }
 }
