@@ -63,7 +63,10 @@ impl Roll {
     pub fn money_of(&self, code: u32) -> u64
         ensures is_all_that_its_accounts_hold { result ≡ money_of code (standing self.now).accounts }
     {
-        self.accounts().iter().map(|account| held(code, account)).sum()
+        self.accounts()
+            .iter()
+            .map(|account| held(code, account))
+            .sum()
     }
 }
 

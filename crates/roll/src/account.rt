@@ -2,7 +2,7 @@
 ghost use Rattle.std.specs.Prelude.{◌≤◌};
 
 // Neither of its sums is ever above its limit, so that sums over accounts fit wherever they are reckoned.
-#[derive(Clone, Copy)]
+#[derive(Clone, Copy, Debug, PartialEq, Eq)]
 pub struct Account {
     pub code: u32,
     pub owner: u32,

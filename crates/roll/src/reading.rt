@@ -16,18 +16,16 @@ use image::{AccountRecord, HEAD, Image, ParticipantRecord};
 use rows::Table;
 
 // Tests every field, in the order of the image.
+#[tactic(auto, unfolding(crate::specs::Limits::field_fault))]
 fn tested(image: &Image) -> Result<(), RollFault>
     ensures { result ≡ told (field_fault (records_of image.now)) }
 {
     let participants = image.participants();
-    if let Some(place) = first_outside(participants, HEAD) {
-        return Err(RollFault::Field(place));
+    let accounts = HEAD + ParticipantRecord::WIDTH * participants.len();
+    match first_outside(participants, HEAD).or_else(|| first_outside(image.accounts(), accounts)) {
+        Some(place) => Err(RollFault::Field(place)),
+        None => Ok(()),
     }
-    let first = HEAD + ParticipantRecord::WIDTH * participants.len();
-    if let Some(place) = first_outside(image.accounts(), first) {
-        return Err(RollFault::Field(place));
-    }
-    Ok(())
 }
 
 // The account that a record within its limits opens.
@@ -49,7 +47,11 @@ fn enrol_image(image: &Image) -> Roll
     ensures { standing result ≡ enrolled_all (records_of image.now) }
 {
     Roll {
-        participants: Table::from_row(image.participants(), Participant::BLANK, |record| Participant::from(*record)),
+        participants: Table::from_row(
+            image.participants(),
+            Participant::BLANK,
+            |record| Participant::from(*record),
+        ),
         accounts: Table::from_row(image.accounts(), Account::BLANK, open_account),
         defaults: 0,
     }
