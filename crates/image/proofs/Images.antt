@@ -18,7 +18,7 @@ use Rattle.image.proofs.Numbers.{bytes_of_field}
 -- what reading gives without a fault
 pub unless_ok : {E Y : Type 0} (fault : Option E) (read got : Y) → Ok got ≡ unless fault read → (fault ≡ None) × (got ≡ read)
 unless_ok None read got e = (refl, cc)
-unless_ok (Some x) read got e = let z : ◌≡◌ {A = ℕ} 0 1 = cc in absurd (omega arith)
+unless_ok (Some x) read got e = absurd cc
 
 -- What a head without a fault has met.
 pub record Headed (bytes : List ℕ) : Type 0 where

@@ -17,7 +17,7 @@ pub enum ImageFault {
 }
 
 impl ImageFault {
-    // The number by which the fault is told.
+    // The number by which the fault is told. The rules give it to several faults, so it is no discriminant of the enum.
     pub fn number(self) -> u8
         ensures is_the_listed_number { result ≡ number_of self }
     {

@@ -17,7 +17,6 @@ use Rattle.roll.specs.declared.table.Roll.{Roll}
 use Rattle.roll.specs.Holdable.{participant_outside, account_outside}
 use Rattle.roll.specs.Limits.{participant_fault, account_fault, field_fault, told, enrolled, enrolled_all, opening_balance, participant_record, account_record, roll_bytes}
 use Rattle.roll.specs.Read.{WithinLimits}
-use Rattle.roll.specs.Standing.{Balance, balance_of, standing}
 use Rattle.roll.specs.Standing.{Balance, Standing, balance_of, standing}
 use Rattle.roll.proofs.Finding.{not_first, each_without}
 
@@ -64,7 +63,7 @@ module _ (r : Records) (e : field_fault r ≡ None) where
 -- accepted fields have no fault
 pub told_ok : (fault : Option ℕ) → Ok tt ≡ told fault → fault ≡ None
 told_ok None e = refl
-told_ok (Some place) e = let z : ◌≡◌ {A = ℕ} 0 1 = cc in absurd (omega arith)
+told_ok (Some place) e = absurd cc
 
 -- a record goes into a roll and comes back
 abbrev scoped : ParticipantRecord → ℕ → ParticipantRecord

@@ -1,5 +1,5 @@
 -- Finding the first fault of a table, record by record. Assumes nothing.
-use Rattle.std.proofs.Common.{◌≡◌, ℕ, ◌+◌, ◌<◌, ◌≤◌, List, [], ◌∷◌, length, get_or, drop, Some, None, Option, sym, refl, ap, ◌∙◌, arith}
+use Rattle.std.proofs.Common.{◌≡◌, ℕ, ◌+◌, ◌<◌, ◌≤◌, List, [], ◌∷◌, length, get_or, drop, Some, None, Option, sym, refl, ap, ◌∙◌}
 use Rattle.std.specs.List.{AllByRecursion}
 use Rattle.std.proofs.lemmas.List.{at_drop_more, at_drop_all}
 use Rattle.roll.specs.Limits.{from_place, first_of, first_fault}
@@ -25,11 +25,11 @@ module _ {R : Type 0} (fault : R → Option ℕ) (width : ℕ) (records : List R
 -- a table without a fault has none in any record
 pub not_first : (a b : Option ℕ) → first_of a b ≡ None → (a ≡ None) × (b ≡ None)
 not_first None b e = (refl, e)
-not_first (Some n) b e = let z : ◌≡◌ {A = ℕ} 0 1 = cc in absurd (omega arith)
+not_first (Some n) b e = absurd cc
 
 not_moved : (place : ℕ) (o : Option ℕ) → from_place place o ≡ None → o ≡ None
 not_moved place None e = refl
-not_moved place (Some n) e = let z : ◌≡◌ {A = ℕ} 0 1 = cc in absurd (omega arith)
+not_moved place (Some n) e = absurd cc
 
 pub each_without : {R : Type 0} (fault : R → Option ℕ) (width place : ℕ) (records : List R) → first_fault fault width place records ≡ None → AllByRecursion (λ r. fault r ≡ None) records
 unfolding first_fault

@@ -24,7 +24,7 @@ module _ {R : Type 0} (fault : R → Option ℕ) (width : ℕ) (within : (r : R)
 
   in_table : (place : ℕ) (rs : List R) (found : ℕ) → first_fault fault width place rs ≡ Some found → found < place + width * length rs
   unfolding first_fault
-  in_table place [] found e = let z : ◌≡◌ {A = ℕ} 0 1 = cc in absurd (omega arith)
+  in_table place [] found e = absurd cc
   in_table place (r ∷ rs) found e = in_record place (length rs) r (fault r) (first_fault fault width (place + width) rs) found refl (in_table (place + width) rs found) e
 
 participant_offset : (p : ParticipantRecord) (offset : ℕ) → participant_fault p ≡ Some offset → offset < 21
@@ -47,7 +47,7 @@ field_in_image r few found e =
 
 -- whatever reading a roll tells is told at a byte of the longest image
 told_in_image : (r : Records) → FewRecords r → (found : Option ℕ) → field_fault r ≡ found → (fault : RollFault) → Err fault ≡ admitted r found → place_of fault < 4423
-told_in_image r few None is fault e = let z : ◌≡◌ {A = ℕ} 0 1 = cc in absurd (omega arith)
+told_in_image r few None is fault e = absurd cc
 told_in_image r few (Some place) is fault e =
     let same : fault ≡ Field place = cc in
     omega (arith, ap place_of same, field_in_image r few place is)
@@ -70,11 +70,11 @@ admitted_few : (r : Records) → FewRecords r → (found : Option ℕ) (s : Stan
 admitted_few r few None s e =
     let same : s ≡ enrolled_all r = cc in
     subst Few (sym same) record { few_participants = omega (arith, length-map r.participants enrolled, few.at_most_64_participants); few_accounts = omega (arith, length-map r.accounts opening_balance, few.at_most_128_accounts) }
-admitted_few r few (Some place) s e = let z : ◌≡◌ {A = ℕ} 0 1 = cc in absurd (omega arith)
+admitted_few r few (Some place) s e = absurd cc
 
 read_few : (read : Result Records ImageFault) → ((r : Records) → Ok r ≡ read → FewRecords r) → (s : Standing) → Ok s ≡ roll_read read → Few s
 read_few (Ok r) few s e = admitted_few r (few r refl) (field_fault r) s e
-read_few (Err head) few s e = let z : ◌≡◌ {A = ℕ} 0 1 = cc in absurd (omega arith)
+read_few (Err head) few s e = absurd cc
 
 pub roll_few : (bytes : List ℕ) (s : Standing) → Ok s ≡ roll_of bytes → Few s
 roll_few bytes s e = read_few (image_of bytes) (few_from_reading bytes) s e

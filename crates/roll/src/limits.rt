@@ -25,7 +25,7 @@ pub(crate) trait Limited {
 
     const WIDTH: usize;
 
-    // Its first field outside its limits, by the byte of the record where it begins.
+    // Its first field outside its limits, by the byte of the record where it begins: that is how the rules tell a field.
     ghost faulty: { Self → Maybe ℕ };
 
     fn fault(&self) -> Option<u8>

@@ -28,7 +28,7 @@ fn tested(image: &Image) -> Result<(), RollFault>
     }
 }
 
-// The account that a record within its limits opens.
+// The account that a record within its limits opens. Every field was tested before, so that this cannot fail as a TryFrom would.
 fn open_account(source: &AccountRecord) -> Account
     requires { account_fault source.now ≡ no_fault }
     ensures { balance_of result ≡ opening_balance source.now }
