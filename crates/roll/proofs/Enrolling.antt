@@ -1,21 +1,24 @@
 -- From the records of an image to a roll: what testing them answers, and what a roll without a fault has met. Assumes nothing.
 use mathlib.Core.List.{map-map}
-use Rattle.std.proofs.Common.{◌≡◌, ℕ, Bool, false, cond, eqb, List, [], ◌∷◌, map, Some, None, Ok, count_by, Option, refl, ap, ◌∙◌, arith}
+use Rattle.std.proofs.Common.{◌≡◌, ℕ, ◌+◌, ◌*◌, ◌<◌, Bool, false, cond, eqb, List, [], ◌∷◌, ◌++◌, length, get_or, take, map, Some, None, Ok, Err, count_by, Option, sym, refl, ap, ◌∙◌, subst, arith}
 use Rattle.std.specs.List.{AllByRecursion, AllZip}
 use Rattle.std.proofs.ByRecursion.{All-map, All-weaker}
-use Rattle.std.proofs.lemmas.List.{length-map}
+use Rattle.std.proofs.lemmas.List.{length-map, take_more}
 use Rattle.std.proofs.lemmas.List.Elements.{All-from_recursion}
 use Rattle.std.proofs.lemmas.List.Folds.{map_fixed}
+use Rattle.std.proofs.lemmas.Slice.Zip.{all_zipped_more}
 use Rattle.std.proofs.lemmas.Bool.Decides.{nat_tests}
 use Rattle.image.specs.declared.record.AccountRecord.{AccountRecord}
 use Rattle.image.specs.declared.record.ParticipantRecord.{ParticipantRecord}
-use Rattle.image.specs.Layout.{Records, FewRecords, bytes_of}
+use Rattle.image.specs.Layout.{Records, FewRecords, bytes_of, account_place}
 use Rattle.rows.proofs.Counts.{none_counted}
 use Rattle.rows.specs.Tables.{records as table_records}
 use Rattle.roll.specs.declared.participant.Participant.{Participant}
 use Rattle.roll.specs.declared.table.Roll.{Roll}
+use Rattle.roll.specs.declared.fault.RollFault.{RollFault}
+use Rattle.roll.specs.declared.fault.RollFault.TheVariants.{Field}
 use Rattle.roll.specs.Holdable.{participant_outside, account_outside}
-use Rattle.roll.specs.Limits.{participant_fault, account_fault, field_fault, told, enrolled, enrolled_all, opening_balance, participant_record, account_record, roll_bytes}
+use Rattle.roll.specs.Limits.{participant_fault, account_fault, first_of, first_fault, field_fault, told, enrolled, enrolled_all, opening_balance, admitted, participant_record, account_record, roll_bytes}
 use Rattle.roll.specs.Read.{WithinLimits}
 use Rattle.roll.specs.Standing.{Balance, Standing, balance_of, standing}
 use Rattle.roll.proofs.Finding.{not_first, each_without}
@@ -60,10 +63,43 @@ module _ (r : Records) (e : field_fault r ≡ None) where
         no_defaults = refl;
       }
 
--- accepted fields have no fault
-pub told_ok : (fault : Option ℕ) → Ok tt ≡ told fault → fault ≡ None
-told_ok None e = refl
-told_ok (Some place) e = absurd cc
+-- what a table tells: nothing, or its first fault, and that is what is told of the image
+told_nothing : (fault : Option ℕ) → Ok tt ≡ told fault → fault ≡ None
+told_nothing None e = refl
+told_nothing (Some place) e = absurd cc
+
+told_fault : (r : Records) (found later : Option ℕ) (fault : RollFault) → Err fault ≡ told found → Err fault ≡ admitted r (first_of found later)
+told_fault r None later fault e = absurd cc
+told_fault r (Some place) later fault e =
+    let same : fault ≡ Field place = cc in
+    ap Err same
+
+-- what is told where both tables are tested, the accounts after the participants
+module _ (r : Records) (participants : List ParticipantRecord) (are : participants ≡ r.participants) where
+  in_order : (accounts : List AccountRecord) (first : ℕ) → accounts ≡ r.accounts → first ≡ 7 + 21 * length participants → field_fault r ≡ first_of (first_fault participant_fault 21 7 participants) (first_fault account_fault 24 first accounts)
+  unfolding field_fault
+  in_order accounts first ares at =
+      let place : account_place (length r.participants) 0 ≡ first = omega (arith, ap length are) in
+      ap (λ l. first_of (first_fault participant_fault 21 7 l) (first_fault account_fault 24 (account_place (length r.participants) 0) r.accounts)) (sym are)
+      ∙ ap (λ l. first_of (first_fault participant_fault 21 7 participants) (first_fault account_fault 24 (account_place (length r.participants) 0) l)) (sym ares)
+      ∙ ap (λ n. first_of (first_fault participant_fault 21 7 participants) (first_fault account_fault 24 n accounts)) place
+
+  pub refused_participant : (fault : RollFault) → Err fault ≡ told (first_fault participant_fault 21 7 participants) → Err fault ≡ admitted r (field_fault r)
+  refused_participant fault e = told_fault r _ _ fault e ∙ ap (admitted r) (sym (in_order r.accounts (7 + 21 * length participants) refl refl))
+
+  module _ (accounts : List AccountRecord) (first : ℕ) (ares : accounts ≡ r.accounts) (at : first ≡ 7 + 21 * length participants) (taken : Ok tt ≡ told (first_fault participant_fault 21 7 participants)) where
+    only_accounts : field_fault r ≡ first_fault account_fault 24 first accounts
+    only_accounts = in_order accounts first ares at ∙ ap (λ o. first_of o (first_fault account_fault 24 first accounts)) (told_nothing _ taken)
+
+    pub refused_account : (fault : RollFault) → Err fault ≡ told (first_fault account_fault 24 first accounts) → Err fault ≡ admitted r (field_fault r)
+    refused_account fault e = alone _ e ∙ ap (admitted r) (sym only_accounts)
+      where
+        alone : (found : Option ℕ) → Err fault ≡ told found → Err fault ≡ admitted r found
+        alone None e = absurd cc
+        alone (Some place) e = told_fault r (Some place) None fault e
+
+    pub without_fault : Ok tt ≡ told (first_fault account_fault 24 first accounts) → field_fault r ≡ None
+    without_fault e = only_accounts ∙ told_nothing _ e
 
 -- a record goes into a roll and comes back
 abbrev scoped : ParticipantRecord → ℕ → ParticipantRecord
@@ -83,6 +119,12 @@ roll_has_the_bytes r e =
     ap (λ ps. bytes_of (records ps (map account_record (map opening_balance r.accounts))))
     (map-map participant_record enrolled r.participants ∙ map_fixed (λ p. participant_record (enrolled p)) r.participants (All-from_recursion (λ p. participant_record (enrolled p) ≡ p) r.participants back))
     ∙ ap (λ xs. bytes_of (records r.participants xs)) (map-map account_record opening_balance r.accounts ∙ map_fixed (λ a. a) r.accounts (λ k d within. refl))
+
+-- what is made of one element more, behind what was made of those before it
+pub made_more : {X Y : Type 0} (R : X → Y → Type 0) (xs : List X) (ys more : List Y) (i : ℕ) (x : X) (y : Y) → i < length xs → x ≡ get_or xs i x → R x y → more ≡ ys ++ y ∷ [] → AllZip R (take i xs) ys → AllZip R (take (i + 1) xs) more
+made_more R xs ys more i x y within read made is so =
+    let one : take i xs ++ x ∷ [] ≡ take (i + 1) xs = ap (λ z. take i xs ++ z ∷ []) read ∙ sym (take_more xs i x within) in
+    subst (λ l. AllZip R l more) one (subst (AllZip R (take i xs ++ x ∷ [])) (sym is) (all_zipped_more R (take i xs) ys x y so made))
 
 -- what a view shows of what was made of each element
 pub viewed : {X Y V : Type 0} (R : X → Y → Type 0) (view : Y → V) (g : X → V) → ((x : X) (y : Y) → R x y → view y ≡ g x) → (xs : List X) (ys : List Y) → AllZip R xs ys → map view ys ≡ map g xs

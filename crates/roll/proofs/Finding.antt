@@ -1,26 +1,34 @@
 -- Finding the first fault of a table, record by record. Assumes nothing.
-use Rattle.std.proofs.Common.{◌≡◌, ℕ, ◌+◌, ◌<◌, ◌≤◌, List, [], ◌∷◌, length, get_or, drop, Some, None, Option, sym, refl, ap, ◌∙◌}
+use Rattle.std.proofs.Common.{◌≡◌, ℕ, ◌+◌, ◌*◌, ◌<◌, ◌≤◌, List, [], ◌∷◌, length, get_or, drop, Some, None, Ok, Err, Option, sym, refl, ap, ◌∙◌, mul-add, mul-one, arith}
 use Rattle.std.specs.List.{AllByRecursion}
 use Rattle.std.proofs.lemmas.List.{at_drop_more, at_drop_all}
-use Rattle.roll.specs.Limits.{from_place, first_of, first_fault}
+use Rattle.roll.specs.declared.fault.RollFault.TheVariants.{Field}
+use Rattle.roll.specs.Limits.{from_place, first_of, first_fault, told}
 
-module _ {R : Type 0} (fault : R → Option ℕ) (width : ℕ) (records : List R) (place i : ℕ) (all : Option ℕ) (inv : first_fault fault width place (drop i records) ≡ all) where
-  stepped : (r : R) → i < length records → r ≡ get_or records i r → first_of (from_place place (fault r)) (first_fault fault width (place + width) (drop (i + 1) records)) ≡ all
+-- the records before a place have no fault
+module _ {R : Type 0} (fault : R → Option ℕ) (width from : ℕ) (records : List R) (i : ℕ) (so : first_fault fault width (from + width * i) (drop i records) ≡ first_fault fault width from records) where
+  one_further : (r : R) → i < length records → r ≡ get_or records i r → first_of (from_place (from + width * i) (fault r)) (first_fault fault width (from + width * (i + 1)) (drop (i + 1) records)) ≡ first_fault fault width from records
   unfolding first_fault
-  stepped r within read =
-      ap (λ x. first_of (from_place place (fault x)) (first_fault fault width (place + width) (drop (i + 1) records))) read
-      ∙ sym (at_drop_more (first_fault fault width place) records i r within)
-      ∙ inv
+  one_further r within read =
+      let next : from + width * (i + 1) ≡ from + width * i + width = omega (arith, mul-add width i 1, mul-one width) in
+      ap (λ x. first_of (from_place (from + width * i) (fault x)) (first_fault fault width (from + width * (i + 1)) (drop (i + 1) records))) read
+      ∙ ap (λ place. first_of (from_place (from + width * i) (fault (get_or records i r))) (first_fault fault width place (drop (i + 1) records))) next
+      ∙ sym (at_drop_more (first_fault fault width (from + width * i)) records i r within)
+      ∙ so
 
-  pub found_here : (r : R) (offset : ℕ) → i < length records → r ≡ get_or records i r → Some offset ≡ fault r → Some (place + offset) ≡ all
-  found_here r offset within read e = ap (λ o. first_of (from_place place o) (first_fault fault width (place + width) (drop (i + 1) records))) e ∙ stepped r within read
+  pub told_here : (r : R) (offset w n : ℕ) → i < length records → r ≡ get_or records i r → fault r ≡ Some offset → w ≡ width → n ≡ offset → Err (Field (from + w * i + n)) ≡ told (first_fault fault width from records)
+  told_here r offset w n within read e wide here =
+      ap (λ k. Err (Field (from + k * i + n))) wide
+      ∙ ap (λ k. Err (Field (from + width * i + k))) here
+      ∙ ap (λ o. told (first_of (from_place (from + width * i) o) (first_fault fault width (from + width * (i + 1)) (drop (i + 1) records)))) (sym e)
+      ∙ ap told (one_further r within read)
 
-  pub not_here : (r : R) → i < length records → r ≡ get_or records i r → None ≡ fault r → first_fault fault width (place + width) (drop (i + 1) records) ≡ all
-  not_here r within read e = ap (λ o. first_of (from_place place o) (first_fault fault width (place + width) (drop (i + 1) records))) e ∙ stepped r within read
+  pub not_here : (r : R) → i < length records → r ≡ get_or records i r → fault r ≡ None → first_fault fault width (from + width * (i + 1)) (drop (i + 1) records) ≡ first_fault fault width from records
+  not_here r within read e = ap (λ o. first_of (from_place (from + width * i) o) (first_fault fault width (from + width * (i + 1)) (drop (i + 1) records))) (sym e) ∙ one_further r within read
 
-  pub nowhere : length records ≤ i → None ≡ all
+  pub nowhere : length records ≤ i → Ok tt ≡ told (first_fault fault width from records)
   unfolding first_fault
-  nowhere past = sym (at_drop_all (first_fault fault width place) records i past) ∙ inv
+  nowhere past = ap told (sym (at_drop_all (first_fault fault width (from + width * i)) records i past) ∙ so)
 
 -- a table without a fault has none in any record
 pub not_first : (a b : Option ℕ) → first_of a b ≡ None → (a ≡ None) × (b ≡ None)

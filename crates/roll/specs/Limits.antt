@@ -1,5 +1,5 @@
 -- Which fields of an image are outside their limits, and what reading a roll gives. Assumes nothing.
-use Rattle.std.specs.Prelude.{ℕ, ◌+◌, Bool, false, cond, ◌||◌, List, [], ◌∷◌, map, length, Some, None, Ok, Err, Option, Result, ◌==◌, nat_lt}
+use Rattle.std.specs.Prelude.{◌≡◌, ℕ, ◌+◌, Bool, false, cond, ◌||◌, List, [], ◌∷◌, map, length, Some, None, Ok, Err, Option, Result, ◌==◌, nat_lt}
 use Rattle.image.specs.declared.fault.ImageFault.{ImageFault}
 use Rattle.image.specs.declared.record.AccountRecord.{AccountRecord}
 use Rattle.image.specs.declared.record.ParticipantRecord.{ParticipantRecord}
@@ -107,7 +107,13 @@ account_record a = record { code = a.code; owner = a.owner; funds = a.funds; ove
 abbrev pub roll_bytes : Standing → List ℕ
 roll_bytes s = bytes_of record { participants = map participant_record s.participants; accounts = map account_record s.accounts }
 
--- What testing the fields answers.
+-- What a table tells whose first fault that is.
 abbrev pub told : Option ℕ → Result (Unit {0}) RollFault
 told None = Ok tt
 told (Some place) = Err (Field place)
+
+-- What a record gives, as it is viewed: what it stands for where no field is outside its limits, else the byte where the first
+-- begins that is.
+abbrev pub Gives : {R X V : Type 0} → (R → Option ℕ) → (X → V) → (R → V) → R → Result X ℕ → Type 0
+Gives fault view gives r (Ok x) = (fault r ≡ None) × (view x ≡ gives r)
+Gives fault view gives r (Err offset) = fault r ≡ Some offset

@@ -6,6 +6,7 @@ mod account;
 mod coded;
 mod fault;
 mod limits;
+mod opening;
 mod participant;
 mod reading;
 mod table;

@@ -1,6 +1,6 @@
 // The limits of an image's fields.
-ghost use Rattle.std.specs.Prelude.{◌≡◌, ℕ, ◌+◌, ◌*◌, ◌≤◌, length, Option as Maybe};
-ghost use Rattle.roll.specs.Limits.{no_code, participant_fault, account_fault, first_fault};
+ghost use Rattle.std.specs.Prelude.{◌≡◌, ℕ, Option as Maybe};
+ghost use Rattle.roll.specs.Limits.{no_code, participant_fault, account_fault};
 
 use image::{AccountRecord, ParticipantRecord};
 
@@ -19,7 +19,7 @@ fn is_no_code(code: u32) -> bool
 }
 
 // A record whose fields have limits.
-pub(crate) trait Limited {
+pub(crate) trait Limited: Copy {
     // The bytes that one has in an image.
     ghost WIDTH: { ℕ };
 
@@ -78,17 +78,4 @@ impl Limited for AccountRecord {
             None
         }
     }
-}
-
-// The first field outside its limits in a table of records that begins at a place: its first byte.
-pub(crate) fn first_outside<R: Limited>(records: &[R], from: usize) -> Option<u16>
-    requires { from + R.WIDTH * length records.now ≤ 4423 }
-    ensures { result ≡ first_fault R.faulty R.WIDTH from records.now }
-{
-    for (i, record) in records.iter().enumerate() {
-        if let Some(offset) = record.fault() {
-            return Some((from + R::WIDTH * i + usize::from(offset)) as u16);
-        }
-    }
-    None
 }

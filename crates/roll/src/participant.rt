@@ -1,8 +1,9 @@
 // A participant as it stands in the roll.
 ghost use Rattle.std.specs.Prelude.{◌≡◌};
-ghost use Rattle.roll.specs.Limits.{enrolled};
+ghost use Rattle.roll.specs.Limits.{Gives, enrolled, participant_fault};
 ghost use Rattle.roll.specs.Marks.{marked};
 
+use crate::limits::Limited;
 use image::ParticipantRecord;
 
 #[derive(Clone, Copy, Debug, PartialEq, Eq)]
@@ -38,19 +39,25 @@ impl Participant {
     }
 }
 
-// Nobody is in default who is enrolled.
-impl From<ParticipantRecord> for Participant {
-    ghost from_gives = { λ source participant. participant ≡ enrolled source };
+// Nobody is in default who is enrolled; a record with a field outside its limits enrols nobody, but tells the byte where the field
+// begins.
+impl TryFrom<ParticipantRecord> for Participant {
+    type Error = u8;
 
-    fn from(source: ParticipantRecord) -> Participant {
-        Participant {
-            code: source.code,
-            futures: source.futures,
-            otc: source.otc,
-            margin: source.margin,
-            adjusted: source.adjusted,
-            in_scope: source.scope == 1,
-            in_default: false,
+    ghost try_from_gives = { Gives participant_fault (λ p. p) enrolled };
+
+    fn try_from(source: ParticipantRecord) -> Result<Participant, u8> {
+        match source.fault() {
+            Some(offset) => Err(offset),
+            None => Ok(Participant {
+                code: source.code,
+                futures: source.futures,
+                otc: source.otc,
+                margin: source.margin,
+                adjusted: source.adjusted,
+                in_scope: source.scope == 1,
+                in_default: false,
+            }),
         }
     }
 }

@@ -1,60 +1,43 @@
 // Reading a roll from its image.
-ghost use Rattle.std.specs.Prelude.{◌≡◌, ◌≤◌, ◌++◌, map, length, drop, IfOk, None as no_fault};
+ghost use Rattle.std.specs.Prelude.{◌≡◌, ℕ, ◌+◌, ◌*◌, ◌≤◌, length, IfOk, None as no_fault};
+ghost use Rattle.std.specs.List.{AllZip};
 ghost use Rattle.std.specs.Result.{result_map_both};
-ghost use Rattle.std.specs.List.{AllByRecursion};
-ghost use Rattle.image.specs.Layout.{records_of};
-ghost use Rattle.roll.specs.Limits.{account_fault, field_fault, told, enrolled, enrolled_all, opening_balance, roll_of, roll_bytes};
+ghost use Rattle.rows.specs.Tables.{records as table_records};
+ghost use Rattle.roll.specs.Limits.{first_fault, told, roll_of, roll_bytes};
 ghost use Rattle.roll.specs.Read.{WithinLimits};
-ghost use Rattle.roll.specs.Standing.{balance_of, standing};
+ghost use Rattle.roll.specs.Standing.{standing};
 
 use crate::account::Account;
 use crate::fault::RollFault;
-use crate::limits::first_outside;
+use crate::limits::Limited;
 use crate::participant::Participant;
 use crate::table::Roll;
-use image::{AccountRecord, HEAD, Image, ParticipantRecord};
+use image::{HEAD, ParticipantRecord};
 use rows::Table;
 
-// Tests every field, in the order of the image.
-#[tactic(auto, unfolding(crate::specs::Limits::field_fault))]
-fn tested(image: &Image) -> Result<(), RollFault>
-    ensures { result ≡ told (field_fault (records_of image.now)) }
+// What the records of a table give that begins at a place, or the first field of one that is outside its limits.
+fn taken_in<R: Limited, T: TryFrom<R, Error = u8> + Copy, const N: usize>(
+    records: &[R],
+    from: usize,
+    blank: T,
+) -> Result<Table<T, N>, RollFault>
+    requires in_image { from + R.WIDTH * length records.now ≤ 4423 }
+    requires room { length records.now ≤ N }
+    requires takes_faultless { (r : R) (x : T) → T.try_from_gives r (Ok x) → R.faulty r ≡ no_fault }
+    requires tells_the_fault { (r : R) (offset : ℕ) → T.try_from_gives r (Err offset) → R.faulty r ≡ Some offset }
+    ensures refuses_the_first_fault { result_map_both (λ _. tt) (λ fault. fault) result ≡ told (first_fault R.faulty R.WIDTH from records.now) }
+    ensures takes_in_each { IfOk result (λ table. AllZip (λ r x. T.try_from_gives r (Ok x)) records.now (table_records table)) }
 {
-    let participants = image.participants();
-    let accounts = HEAD + ParticipantRecord::WIDTH * participants.len();
-    match first_outside(participants, HEAD).or_else(|| first_outside(image.accounts(), accounts)) {
-        Some(place) => Err(RollFault::Field(place)),
-        None => Ok(()),
+    let mut table = Table::empty(blank);
+    for (i, record) in records.iter().enumerate() {
+        match T::try_from(*record) {
+            Ok(taken) => table.push(taken),
+            Err(offset) => {
+                return Err(RollFault::Field((from + R::WIDTH * i + usize::from(offset)) as u16));
+            }
+        }
     }
-}
-
-// The account that a record within its limits opens. Every field was tested before, so that this cannot fail as a TryFrom would.
-fn open_account(source: &AccountRecord) -> Account
-    requires { account_fault source.now ≡ no_fault }
-    ensures { balance_of result ≡ opening_balance source.now }
-{
-    Account {
-        code: source.code,
-        owner: source.owner,
-        funds: source.funds,
-        overnight: source.overnight,
-    }
-}
-
-// The roll of an image without a fault.
-fn enrol_image(image: &Image) -> Roll
-    requires { field_fault (records_of image.now) ≡ no_fault }
-    ensures { standing result ≡ enrolled_all (records_of image.now) }
-{
-    Roll {
-        participants: Table::from_row(
-            image.participants(),
-            Participant::BLANK,
-            |record| Participant::from(*record),
-        ),
-        accounts: Table::from_row(image.accounts(), Account::BLANK, open_account),
-        defaults: 0,
-    }
+    Ok(table)
 }
 
 // The roll that an image gives, or the first fault of the image or of its fields.
@@ -64,6 +47,13 @@ pub fn read(bytes: &[u8]) -> Result<Roll, RollFault>
     ensures fields_are_within_limits { IfOk result (λ roll. WithinLimits (standing roll)) }
 {
     let image = image::read(bytes)?;
-    tested(&image)?;
-    Ok(enrol_image(&image))
+    let records = image.participants();
+    let participants = taken_in(records, HEAD, Participant::BLANK)?;
+    let first = HEAD + ParticipantRecord::WIDTH * records.len();
+    let accounts = taken_in(image.accounts(), first, Account::BLANK)?;
+    Ok(Roll {
+        participants,
+        accounts,
+        defaults: 0,
+    })
 }
