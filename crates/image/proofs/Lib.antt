@@ -1,3 +1,2 @@
-pub mod Blanks
 pub mod Images
 pub mod Numbers

@@ -1,28 +1,15 @@
 -- Numbers of several bytes, and the bytes of a number. Assumes nothing.
-use Rattle.std.proofs.Common.{◌≡◌, ℕ, zero, suc, ◌+◌, ◌*◌, ◌/◌, ◌%◌, ◌^◌, ◌<◌, ◌≤◌, List, [], ◌∷◌, ◌++◌, length, get_or, take, drop, sym, refl, ap, ◌∙◌, add-one, arith, w8, Fits}
-use native.Mathlib.Nat.{pow-le-pow_right}
+use Rattle.std.proofs.Common.{◌≡◌, ℕ, zero, suc, ◌+◌, ◌*◌, ◌/◌, ◌%◌, ◌<◌, ◌≤◌, List, [], ◌∷◌, ◌++◌, length, get_or, take, drop, sym, refl, ap, ◌∙◌, add-one, arith, w8, Fits}
 use lib.Arith.{digits_div, digits_mod}
 use Rattle.std.specs.Int.Digits.{number_from_digits, AllBelowBase}
-use Rattle.std.proofs.lemmas.Int.Digits.{number_lt, number_more}
+use Rattle.std.proofs.lemmas.Int.Digits.{number_more}
 use Rattle.std.proofs.ByRecursion.{All-from_get_or, All-get_or, All-take, All-drop}
-use Rattle.std.proofs.lemmas.List.{length-take-le, length-drop, take_all, take_more, drop_more}
+use Rattle.std.proofs.lemmas.List.{length-take-le, length-drop, take_all, take_more}
 use Rattle.image.specs.Layout.{number_at, number_bytes}
 
 -- bytes are below 256
 pub bytes_under : (bytes : List ℕ) → ((i : ℕ) → Fits w8 (get_or bytes i 0)) → AllBelowBase 256 bytes
 bytes_under bytes fit = All-from_get_or (λ b. b < 256) bytes 0 (λ i h. omega (arith, fit i))
-
--- at most so many bytes, at most so large a number
-pub number_below : (n : ℕ) (bytes : List ℕ) → AllBelowBase 256 bytes → length bytes ≤ n → number_from_digits 256 bytes < 256 ^ n
-number_below n bytes under few =
-    let wide : 256 ^ length bytes ≤ 256 ^ n = pow-le-pow_right (omega arith) few in
-    omega (arith, number_lt 256 bytes under)
-
--- one byte is the number that it is
-pub one_byte : (bytes : List ℕ) (at : ℕ) → at < length bytes → number_at at 1 bytes ≡ get_or bytes at 0
-one_byte bytes at within =
-    ap (λ l. number_from_digits 256 (take 1 l)) (drop_more bytes at 0 within)
-    ∙ (let once : 0 * 256 + get_or bytes at 0 ≡ get_or bytes at 0 = omega arith in once)
 
 -- the bytes of the number that bytes are
 module _ (bytes : List ℕ) (under : AllBelowBase 256 bytes) where

@@ -5,6 +5,7 @@ use Rattle.std.specs.Int.Digits.{number_from_digits}
 use Rattle.image.specs.declared.record.AccountRecord.{AccountRecord}
 use Rattle.image.specs.declared.record.ParticipantRecord.{ParticipantRecord}
 use Rattle.image.specs.declared.tables.Image.{Image}
+use Rattle.rows.specs.Tables.{records}
 
 -- The number that so many bytes from a place on are, the first byte weighing most.
 abbrev pub number_at : ℕ → ℕ → List ℕ → ℕ
@@ -62,12 +63,9 @@ records_at bytes = record {
   accounts = map (λ i. account_at bytes (account_place (participant_count bytes) i)) (range_with_len 0 (account_count bytes));
 }
 
--- The records that an image in memory holds: its tables up to their counts.
+-- The records that an image in memory holds: those of its tables.
 unfoldable pub records_of : Image → Records
-records_of image = record {
-  participants = take image.participant_count image.participants;
-  accounts = take image.account_count image.accounts;
-}
+records_of image = record { participants = records image.participants; accounts = records image.accounts }
 
 -- The other way: the bytes that records are written as. A number in so many bytes, the first weighing most.
 unfoldable pub number_bytes : ℕ → ℕ → List ℕ

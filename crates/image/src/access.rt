@@ -1,4 +1,6 @@
 // The records of an image in memory.
+#![tactic(auto, unfolding(crate::specs::Layout::records_of))]
+
 ghost use Rattle.std.specs.Prelude.{◌≡◌, ◌≤◌, length};
 ghost use Rattle.image.specs.Layout.{records_of};
 
@@ -11,7 +13,7 @@ impl Image {
         ensures are_its_participants { result.now ≡ (records_of self.now).participants }
         ensures at_most_64 { length result.now ≤ 64 }
     {
-        &self.participants[0..self.participant_count]
+        self.participants.as_slice()
     }
 
     // Its accounts, in order.
@@ -19,6 +21,6 @@ impl Image {
         ensures are_its_accounts { result.now ≡ (records_of self.now).accounts }
         ensures at_most_128 { length result.now ≤ 128 }
     {
-        &self.accounts[0..self.account_count]
+        self.accounts.as_slice()
     }
 }

@@ -3,12 +3,12 @@
 
 mod access;
 mod fault;
-mod number;
 mod reading;
 mod record;
+mod stored;
 mod tables;
 
 pub use fault::ImageFault;
-pub use reading::read;
+pub use reading::{HEAD, read};
 pub use record::{AccountRecord, ParticipantRecord};
-pub use tables::Image;
+pub use tables::{Image, MOST_ACCOUNTS, MOST_PARTICIPANTS};

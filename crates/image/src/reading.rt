@@ -1,52 +1,57 @@
 // Reading an image.
-ghost use Rattle.std.specs.Prelude.{◌≡◌, ◌+◌, ◌*◌, ◌≤◌, ◌++◌, map, length, drop, IfOk};
+ghost use Rattle.std.specs.Prelude.{◌≡◌, ◌+◌, ◌*◌, ◌≤◌, min, map, length, IfOk};
 ghost use Rattle.std.specs.List.{range_with_len};
 ghost use Rattle.std.specs.Result.{result_map_both};
 ghost use Rattle.image.specs.Faults.{head_fault, unless, image_of};
 ghost use Rattle.image.specs.Head.{counts_of};
-ghost use Rattle.image.specs.Layout.{participant_at as participant_defined, account_at as account_defined, participant_place, account_place, records_of, bytes_of, FewRecords};
+ghost use Rattle.image.specs.Layout.{length_for, records_of, bytes_of, FewRecords};
+ghost use Rattle.rows.specs.Tables.{records};
 
 use crate::fault::ImageFault;
-use crate::number::{byte_at, long_at, word_at};
 use crate::record::{AccountRecord, ParticipantRecord};
+use crate::stored::Stored;
 use crate::tables::{Image, MOST_ACCOUNTS, MOST_PARTICIPANTS};
+use rows::Table;
 
 // The version that is read.
 const VERSION: u8 = 1;
-// The bytes of a head, of a participant and of an account.
-const HEAD: usize = 7;
-
-const PARTICIPANT: usize = 21;
-
-const ACCOUNT: usize = 24;
+// The bytes of a head.
+pub const HEAD: usize = 7;
 
 // How many records an image has.
-#[derive(Clone, Copy)]
+#[derive(Clone, Copy, Debug, PartialEq, Eq)]
 struct Counts {
     participants: usize,
     accounts: usize,
 }
 
 // Tests the head, in the order of the faults, and answers how many records follow.
+#[tactic(auto, using(std::proofs::lemmas::Bool::Decides::nat_tests), unfolding(crate::specs::Faults::head_fault))]
 fn counted(bytes: &[u8]) -> Result<Counts, ImageFault>
-    ensures { result ≡ unless (head_fault bytes.now) (counts_of bytes.now) }
+    ensures as_defined { result ≡ unless (head_fault bytes.now) (counts_of bytes.now) }
+    ensures few_participants { IfOk result (λ counts. counts.participants ≤ 64) }
+    ensures few_accounts { IfOk result (λ counts. counts.accounts ≤ 128) }
+    ensures length_is_stated { IfOk result (λ counts. length bytes.now ≡ length_for counts.participants counts.accounts) }
 {
     if bytes.len() < HEAD {
         return Err(ImageFault::Short);
     }
-    if byte_at(bytes, 0) != VERSION {
+    if u8::read_at(bytes, 0) != VERSION {
         return Err(ImageFault::Version);
     }
-    let participants = byte_at(bytes, 5) as usize;
-    if participants < 1 || participants > MOST_PARTICIPANTS {
+    let participants = usize::from(u8::read_at(bytes, 5));
+    if !(1..=MOST_PARTICIPANTS).contains(&participants) {
         return Err(ImageFault::Participants);
     }
-    let accounts = byte_at(bytes, 6) as usize;
+    let accounts = usize::from(u8::read_at(bytes, 6));
     if accounts > MOST_ACCOUNTS {
         return Err(ImageFault::Accounts);
     }
-    let stated = word_at(bytes, 1) as usize;
-    if stated != bytes.len() || stated != HEAD + PARTICIPANT * participants + ACCOUNT * accounts {
+    let stated = u32::read_at(bytes, 1) as usize;
+    if stated != bytes.len()
+        || stated
+            != HEAD + ParticipantRecord::WIDTH * participants + AccountRecord::WIDTH * accounts
+    {
         return Err(ImageFault::Length);
     }
     Ok(Counts {
@@ -55,54 +60,23 @@ fn counted(bytes: &[u8]) -> Result<Counts, ImageFault>
     })
 }
 
-// The participant whose first byte stands at a place.
-fn participant_at(bytes: &[u8], at: usize) -> ParticipantRecord
-    requires { at + 21 ≤ length bytes.now }
-    ensures { result ≡ participant_defined bytes.now at }
+// The table of so many records, one behind the other, the first of which begins at a place.
+fn table_at<R: Stored + Copy, const N: usize>(
+    bytes: &[u8],
+    first: usize,
+    count: usize,
+    blank: R,
+) -> Table<R, N>
+    requires { first + R.WIDTH * count ≤ length bytes.now }
+    ensures { records result ≡ map (λ i. R.stored_at bytes.now (first + R.WIDTH * i)) (range_with_len 0 (min count N)) }
 {
-    ParticipantRecord {
-        code: word_at(bytes, at),
-        futures: word_at(bytes, at + 4),
-        otc: word_at(bytes, at + 8),
-        margin: word_at(bytes, at + 12),
-        adjusted: word_at(bytes, at + 16),
-        scope: byte_at(bytes, at + 20),
-    }
-}
-
-// The account whose first byte stands at a place.
-fn account_at(bytes: &[u8], at: usize) -> AccountRecord
-    requires { at + 24 ≤ length bytes.now }
-    ensures { result ≡ account_defined bytes.now at }
-{
-    AccountRecord {
-        code: word_at(bytes, at),
-        owner: word_at(bytes, at + 4),
-        funds: long_at(bytes, at + 8),
-        overnight: long_at(bytes, at + 16),
-    }
-}
-
-// The participants, one for each place from the first on.
-fn read_participants(bytes: &[u8], count: usize, table: &mut [ParticipantRecord])
-    requires long { 7 + 21 * count ≤ length bytes.now }
-    requires room { count ≤ length table.old }
-    ensures { table.new ≡ map (λ i. participant_defined bytes.now (participant_place i)) (range_with_len 0 count) ++ drop count table.old }
-{
-    for i in 0..count {
-        table[i] = participant_at(bytes, HEAD + PARTICIPANT * i);
-    }
-}
-
-// The accounts, which follow the participants, one for each place from the first on.
-fn read_accounts(bytes: &[u8], participants: usize, count: usize, table: &mut [AccountRecord])
-    requires long { 7 + 21 * participants + 24 * count ≤ length bytes.now }
-    requires room { count ≤ length table.old }
-    ensures { table.new ≡ map (λ i. account_defined bytes.now (account_place participants i)) (range_with_len 0 count) ++ drop count table.old }
-{
-    for i in 0..count {
-        table[i] = account_at(bytes, HEAD + PARTICIPANT * participants + ACCOUNT * i);
-    }
+    Table::tabulate(
+        count,
+        blank,
+        |i|
+            requires { first + R.WIDTH * i + R.WIDTH ≤ length bytes.now }
+        { R::read_at(bytes, first + R::WIDTH * i) },
+    )
 }
 
 // The records of an image, or what is wrong with its head.
@@ -112,14 +86,9 @@ pub fn read(bytes: &[u8]) -> Result<Image, ImageFault>
     ensures counts_are_within_limits { IfOk result (λ image. FewRecords (records_of image)) }
 {
     let counts = counted(bytes)?;
-    let mut participants = [ParticipantRecord::BLANK; MOST_PARTICIPANTS];
-    read_participants(bytes, counts.participants, &mut participants);
-    let mut accounts = [AccountRecord::BLANK; MOST_ACCOUNTS];
-    read_accounts(bytes, counts.participants, counts.accounts, &mut accounts);
+    let accounts = HEAD + ParticipantRecord::WIDTH * counts.participants;
     Ok(Image {
-        participants,
-        accounts,
-        participant_count: counts.participants,
-        account_count: counts.accounts,
+        participants: table_at(bytes, HEAD, counts.participants, ParticipantRecord::BLANK),
+        accounts: table_at(bytes, accounts, counts.accounts, AccountRecord::BLANK),
     })
 }

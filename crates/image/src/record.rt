@@ -1,4 +1,7 @@
 // The records of an image, as they are written there.
+ghost use Rattle.image.specs.Layout.{participant_at, account_at};
+
+use crate::stored::Stored;
 
 #[derive(Clone, Copy, Debug, PartialEq, Eq)]
 pub struct ParticipantRecord {
@@ -20,6 +23,28 @@ impl ParticipantRecord {
         adjusted: 0,
         scope: 0,
     };
+
+    // The bytes that one has.
+    pub const WIDTH: usize = 21;
+}
+
+impl Stored for ParticipantRecord {
+    ghost WIDTH = { 21 };
+
+    const WIDTH: usize = ParticipantRecord::WIDTH;
+
+    ghost stored_at = { participant_at };
+
+    fn read_at(bytes: &[u8], at: usize) -> ParticipantRecord {
+        ParticipantRecord {
+            code: u32::read_at(bytes, at),
+            futures: u32::read_at(bytes, at + 4),
+            otc: u32::read_at(bytes, at + 8),
+            margin: u32::read_at(bytes, at + 12),
+            adjusted: u32::read_at(bytes, at + 16),
+            scope: u8::read_at(bytes, at + 20),
+        }
+    }
 }
 
 #[derive(Clone, Copy, Debug, PartialEq, Eq)]
@@ -38,4 +63,24 @@ impl AccountRecord {
         funds: 0,
         overnight: 0,
     };
+
+    // The bytes that one has.
+    pub const WIDTH: usize = 24;
+}
+
+impl Stored for AccountRecord {
+    ghost WIDTH = { 24 };
+
+    const WIDTH: usize = AccountRecord::WIDTH;
+
+    ghost stored_at = { account_at };
+
+    fn read_at(bytes: &[u8], at: usize) -> AccountRecord {
+        AccountRecord {
+            code: u32::read_at(bytes, at),
+            owner: u32::read_at(bytes, at + 4),
+            funds: u64::read_at(bytes, at + 8),
+            overnight: u64::read_at(bytes, at + 16),
+        }
+    }
 }

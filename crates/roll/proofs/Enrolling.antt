@@ -1,38 +1,25 @@
 -- From the records of an image to a roll: what testing them answers, and what a roll without a fault has met. Assumes nothing.
-use Rattle.std.proofs.Common.{◌≡◌, ℕ, ◌+◌, ◌*◌, Bool, false, cond, eqb, List, [], ◌∷◌, ◌++◌, map, length, take, Some, None, Ok, Err, count_by, Option, sym, refl, ap, ◌∙◌, arith}
-use Rattle.std.specs.List.{AllByRecursion}
+use mathlib.Core.List.{map-map}
+use Rattle.std.proofs.Common.{◌≡◌, ℕ, Bool, false, cond, eqb, List, [], ◌∷◌, map, Some, None, Ok, count_by, Option, refl, ap, ◌∙◌, arith}
+use Rattle.std.specs.List.{AllByRecursion, AllZip}
 use Rattle.std.proofs.ByRecursion.{All-map, All-weaker}
-use Rattle.std.proofs.lemmas.List.{length-map, take-map}
+use Rattle.std.proofs.lemmas.List.{length-map}
+use Rattle.std.proofs.lemmas.List.Elements.{All-from_recursion}
+use Rattle.std.proofs.lemmas.List.Folds.{map_fixed}
 use Rattle.std.proofs.lemmas.Bool.Decides.{nat_tests}
 use Rattle.image.specs.declared.record.AccountRecord.{AccountRecord}
 use Rattle.image.specs.declared.record.ParticipantRecord.{ParticipantRecord}
-use Rattle.image.specs.Layout.{Records, FewRecords, bytes_of, account_place}
-use Rattle.rows.proofs.Counts.{all_of, none_counted}
-use Rattle.rows.proofs.Rows.{map-map, written_part}
+use Rattle.image.specs.Layout.{Records, FewRecords, bytes_of}
+use Rattle.rows.proofs.Counts.{none_counted}
+use Rattle.rows.specs.Tables.{records as table_records}
 use Rattle.roll.specs.declared.participant.Participant.{Participant}
 use Rattle.roll.specs.declared.table.Roll.{Roll}
-use Rattle.roll.specs.declared.fault.RollFault.TheVariants.{Field}
 use Rattle.roll.specs.Holdable.{participant_outside, account_outside}
-use Rattle.roll.specs.Limits.{participant_fault, account_fault, first_of, first_fault, field_fault, told, enrolled, enrolled_all, opening_balance, participant_record, account_record, roll_bytes}
+use Rattle.roll.specs.Limits.{participant_fault, account_fault, field_fault, told, enrolled, enrolled_all, opening_balance, participant_record, account_record, roll_bytes}
 use Rattle.roll.specs.Read.{WithinLimits}
 use Rattle.roll.specs.Standing.{Balance, balance_of, standing}
-use Rattle.roll.proofs.Marking.{parts}
+use Rattle.roll.specs.Standing.{Balance, Standing, balance_of, standing}
 use Rattle.roll.proofs.Finding.{not_first, each_without}
-
--- what testing the tables one after the other answers
-module _ (r : Records) (participants : List ParticipantRecord) (are : participants ≡ r.participants) where
-  pub fault_among_participants : (place : ℕ) → Some place ≡ first_fault participant_fault 21 7 participants → Err (Field place) ≡ told (field_fault r)
-  unfolding field_fault
-  fault_among_participants place e =
-      ap (λ o. told (first_of o (first_fault account_fault 24 (account_place (length r.participants) 0) r.accounts))) (e ∙ ap (first_fault participant_fault 21 7) are)
-
-  pub fault_among_accounts : (accounts : List AccountRecord) → accounts ≡ r.accounts → (first : ℕ) → first ≡ 7 + 21 * length participants → None ≡ first_fault participant_fault 21 7 participants
-      → (found : Option ℕ) → found ≡ first_fault account_fault 24 first accounts → told found ≡ told (field_fault r)
-  unfolding field_fault
-  fault_among_accounts accounts ares first from none found e =
-      let place : first ≡ account_place (length r.participants) 0 = omega (arith, ap length are) in
-      ap told (e ∙ ap (first_fault account_fault 24 first) ares ∙ ap (λ n. first_fault account_fault 24 n r.accounts) place)
-      ∙ ap (λ o. told (first_of o (first_fault account_fault 24 (account_place (length r.participants) 0) r.accounts))) (none ∙ ap (first_fault participant_fault 21 7) are)
 
 -- no fault in any record
 pub faultless_participants : (r : Records) → field_fault r ≡ None → AllByRecursion (λ p. participant_fault p ≡ None) r.participants
@@ -79,11 +66,7 @@ pub told_ok : (fault : Option ℕ) → Ok tt ≡ told fault → fault ≡ None
 told_ok None e = refl
 told_ok (Some place) e = let z : ◌≡◌ {A = ℕ} 0 1 = cc in absurd (omega arith)
 
--- records that go into a roll and come back
-map_same : {X : Type 0} (f : X → X) (P : X → Type 0) → ((x : X) → P x → f x ≡ x) → (xs : List X) → AllByRecursion P xs → map f xs ≡ xs
-map_same f P h [] all = refl
-map_same f P h (x ∷ xs) all = ap (λ y. y ∷ map f xs) (h x all.0) ∙ ap (λ l. x ∷ l) (map_same f P h xs all.1)
-
+-- a record goes into a roll and comes back
 abbrev scoped : ParticipantRecord → ℕ → ParticipantRecord
 scoped p scope = record { code = p.code; futures = p.futures; otc = p.otc; margin = p.margin; adjusted = p.adjusted; scope = scope }
 
@@ -97,18 +80,25 @@ records participants accounts = record { participants = participants; accounts =
 
 pub roll_has_the_bytes : (r : Records) → field_fault r ≡ None → roll_bytes (enrolled_all r) ≡ bytes_of r
 roll_has_the_bytes r e =
+    let back = All-weaker (λ p. participant_fault p ≡ None) (λ p. participant_record (enrolled p) ≡ p) participant_back r.participants (faultless_participants r e) in
     ap (λ ps. bytes_of (records ps (map account_record (map opening_balance r.accounts))))
-    (map-map participant_record enrolled r.participants ∙ map_same (λ p. participant_record (enrolled p)) (λ p. participant_fault p ≡ None) participant_back r.participants (faultless_participants r e))
-    ∙ ap (λ xs. bytes_of (records r.participants xs)) (map-map account_record opening_balance r.accounts ∙ map_same (λ a. a) (λ _. Unit {0}) (λ a h. refl) r.accounts (all_of (λ _. Unit {0}) (λ _. tt) r.accounts))
+    (map-map participant_record enrolled r.participants ∙ map_fixed (λ p. participant_record (enrolled p)) r.participants (All-from_recursion (λ p. participant_record (enrolled p) ≡ p) r.participants back))
+    ∙ ap (λ xs. bytes_of (records r.participants xs)) (map-map account_record opening_balance r.accounts ∙ map_fixed (λ a. a) r.accounts (λ k d within. refl))
 
--- a roll whose tables were filled from the records
-module _ (r : Records) (roll : Roll) (participants : List ParticipantRecord) (accounts : List AccountRecord) (are : participants ≡ r.participants) (ares : accounts ≡ r.accounts) where
-  pub stands_as_enrolled : (spare : List Participant) (idle : List Balance) → roll.participant_count ≡ length participants → roll.account_count ≡ length accounts → roll.defaults ≡ 0
-      → roll.participants ≡ map enrolled participants ++ spare → map balance_of roll.accounts ≡ map opening_balance accounts ++ idle → standing roll ≡ enrolled_all r
-  unfolding standing
-  stands_as_enrolled spare idle ps as' none table held =
-      ap (λ l. parts l (map balance_of (take roll.account_count roll.accounts)) roll.defaults)
-      (written_part (map enrolled participants) spare roll.participant_count roll.participants (length-map participants enrolled ∙ sym ps) table ∙ ap (map enrolled) are)
-      ∙ ap (λ l. parts (map enrolled r.participants) l roll.defaults)
-      (sym (take-map balance_of roll.account_count roll.accounts) ∙ written_part (map opening_balance accounts) idle roll.account_count (map balance_of roll.accounts) (length-map accounts opening_balance ∙ sym as') held ∙ ap (map opening_balance) ares)
-      ∙ ap (parts (map enrolled r.participants) (map opening_balance r.accounts)) none
+-- what a view shows of what was made of each element
+pub viewed : {X Y V : Type 0} (R : X → Y → Type 0) (view : Y → V) (g : X → V) → ((x : X) (y : Y) → R x y → view y ≡ g x) → (xs : List X) (ys : List Y) → AllZip R xs ys → map view ys ≡ map g xs
+viewed R view g shows [] [] made = refl
+viewed R view g shows [] (y ∷ ys) made = absurd made
+viewed R view g shows (x ∷ xs) [] made = absurd made
+viewed R view g shows (x ∷ xs) (y ∷ ys) made = ap (λ v. v ∷ map view ys) (shows x y made.0) ∙ ap (λ l. g x ∷ l) (viewed R view g shows xs ys made.1)
+
+abbrev parts : List Participant → List Balance → ℕ → Standing
+parts participants accounts defaults = record { participants = participants; accounts = accounts; defaults = defaults }
+
+-- a roll whose tables show what the records give
+pub stands_as_enrolled : (r : Records) (roll : Roll) → table_records roll.participants ≡ map enrolled r.participants → map balance_of (table_records roll.accounts) ≡ map opening_balance r.accounts → roll.defaults ≡ 0 → standing roll ≡ enrolled_all r
+unfolding standing
+stands_as_enrolled r roll participants accounts none =
+    ap (λ l. parts l (map balance_of (table_records roll.accounts)) roll.defaults) participants
+    ∙ ap (λ l. parts (map enrolled r.participants) l roll.defaults) accounts
+    ∙ ap (parts (map enrolled r.participants) (map opening_balance r.accounts)) none

@@ -1,5 +1,6 @@
 -- The roll as it stands. Assumes nothing.
-use Rattle.std.specs.Prelude.{ℕ, ◌+◌, cond, List, map, take, sum_by, count_by, ◌==◌, nat_eq}
+use Rattle.std.specs.Prelude.{ℕ, ◌+◌, cond, List, map, sum_by, count_by, ◌==◌, nat_eq}
+use Rattle.rows.specs.Tables.{records}
 use Rattle.roll.specs.declared.account.Account.{Account}
 use Rattle.roll.specs.declared.participant.Participant.{Participant}
 use Rattle.roll.specs.declared.table.Roll.{Roll}
@@ -21,11 +22,11 @@ pub record Standing : Type 0 where
   pub accounts : List Balance
   pub defaults : ℕ
 
--- How a roll stands: its tables up to their counts.
+-- How a roll stands: the records of its tables.
 unfoldable pub standing : Roll → Standing
 standing roll = record {
-  participants = take roll.participant_count roll.participants;
-  accounts = map balance_of (take roll.account_count roll.accounts);
+  participants = records roll.participants;
+  accounts = map balance_of (records roll.accounts);
   defaults = roll.defaults;
 }
 

@@ -1,11 +1,14 @@
 // Looking at a roll, and marking a participant.
+#![tactic(auto, unfolding(crate::specs::Standing::standing))]
+
 ghost use Rattle.std.specs.Prelude.{◌≡◌, ◌≤◌, [], map, length};
 ghost use Rattle.roll.specs.Marks.{marked_at};
 ghost use Rattle.roll.specs.Standing.{balance_of, standing, held_by, money_of};
 
 use crate::account::Account;
 use crate::participant::Participant;
-use crate::table::{MOST_ACCOUNTS, MOST_PARTICIPANTS, Roll};
+use crate::table::Roll;
+use rows::Table;
 
 impl Roll {
     // A roll without records.
@@ -15,10 +18,8 @@ impl Roll {
         ensures has_no_defaults { (standing result).defaults ≡ 0 }
     {
         Roll {
-            participants: [Participant::BLANK; MOST_PARTICIPANTS],
-            accounts: [Account::blank(); MOST_ACCOUNTS],
-            participant_count: 0,
-            account_count: 0,
+            participants: Table::empty(Participant::BLANK),
+            accounts: Table::empty(Account::BLANK),
             defaults: 0,
         }
     }
@@ -28,8 +29,7 @@ impl Roll {
         ensures are_its_participants { result.now ≡ (standing self.now).participants }
         ensures at_most_64 { length result.now ≤ 64 }
     {
-        let count = self.participant_count.min(MOST_PARTICIPANTS);
-        &self.participants[0..count]
+        self.participants.as_slice()
     }
 
     // Its accounts, in order.
@@ -38,8 +38,7 @@ impl Roll {
         ensures are_as_many { length result.now ≡ length (standing self.now).accounts }
         ensures at_most_128 { length result.now ≤ 128 }
     {
-        let count = self.account_count.min(MOST_ACCOUNTS);
-        &self.accounts[0..count]
+        self.accounts.as_slice()
     }
 
     // How many defaulted in the present period.
@@ -53,8 +52,10 @@ impl Roll {
     pub fn mark(&mut self, place: usize)
         ensures marks_just_that_participant { standing self.new ≡ marked_at place (standing self.old) }
     {
-        if place < self.participants().len() {
-            self.participants[place].mark();
+        if let Some(participant) = self.participants().get(place) {
+            let mut marked = *participant;
+            marked.mark();
+            self.participants.set(place, marked);
         }
     }
 
@@ -62,7 +63,10 @@ impl Roll {
     pub fn money_of(&self, code: u32) -> u64
         ensures is_all_that_its_accounts_hold { result ≡ money_of code (standing self.now).accounts }
     {
-        money_in(code, self.accounts())
+        self.accounts()
+            .iter()
+            .map(|account| held(code, account))
+            .sum()
     }
 }
 
@@ -75,16 +79,4 @@ fn held(code: u32, account: &Account) -> u64
     } else {
         0
     }
-}
-
-// What those accounts that belong to the participant with this code hold together.
-fn money_in(code: u32, accounts: &[Account]) -> u64
-    requires { length accounts.now ≤ 128 }
-    ensures { result ≡ money_of code (map balance_of accounts.now) }
-{
-    let mut money = 0;
-    for account in accounts {
-        money += held(code, account);
-    }
-    money
 }

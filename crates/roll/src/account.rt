@@ -2,7 +2,7 @@
 ghost use Rattle.std.specs.Prelude.{◌≤◌};
 
 // Neither of its sums is ever above its limit, so that sums over accounts fit wherever they are reckoned.
-#[derive(Clone, Copy)]
+#[derive(Clone, Copy, Debug, PartialEq, Eq)]
 pub struct Account {
     pub code: u32,
     pub owner: u32,
@@ -14,12 +14,10 @@ pub struct Account {
 
 impl Account {
     // What stands in a table's place before an account is written there.
-    pub(crate) fn blank() -> Account {
-        Account {
-            code: 0,
-            owner: 0,
-            funds: 0,
-            overnight: 0,
-        }
-    }
+    pub(crate) const BLANK: Account = Account {
+        code: 0,
+        owner: 0,
+        funds: 0,
+        overnight: 0,
+    };
 }

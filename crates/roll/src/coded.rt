@@ -33,9 +33,5 @@ impl Coded for Account {
 pub fn with_code<C: Coded>(code: u32, row: &[C]) -> usize
     ensures counts_those_with_the_code { result ≡ count_by (λ x. nat_eq (C.called x) code) row.now }
 {
-    let mut count = 0;
-    for record in row {
-        count += usize::from(record.code() == code);
-    }
-    count
+    row.iter().filter(|record| record.code() == code).count()
 }

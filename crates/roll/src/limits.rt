@@ -15,11 +15,16 @@ const MONEY_LIMIT: u64 = 9_000_000_000;
 fn is_no_code(code: u32) -> bool
     ensures { result ≡ no_code code }
 {
-    code < 1 || code > LAST_CODE
+    !(1..=LAST_CODE).contains(&code)
 }
 
 // A record whose fields have limits.
 pub(crate) trait Limited {
+    // The bytes that one has in an image.
+    ghost WIDTH: { ℕ };
+
+    const WIDTH: usize;
+
     // Its first field outside its limits, by the byte of the record where it begins.
     ghost faulty: { Self → Maybe ℕ };
 
@@ -28,62 +33,62 @@ pub(crate) trait Limited {
 }
 
 impl Limited for ParticipantRecord {
+    ghost WIDTH = { 21 };
+
+    const WIDTH: usize = ParticipantRecord::WIDTH;
+
     ghost faulty = { participant_fault };
 
     fn fault(&self) -> Option<u8> {
         if is_no_code(self.code) {
-            return Some(0);
+            Some(0)
+        } else if self.futures > SUM_LIMIT {
+            Some(4)
+        } else if self.otc > SUM_LIMIT {
+            Some(8)
+        } else if self.margin > SUM_LIMIT {
+            Some(12)
+        } else if self.adjusted > SUM_LIMIT {
+            Some(16)
+        } else if self.scope > 1 {
+            Some(20)
+        } else {
+            None
         }
-        if self.futures > SUM_LIMIT {
-            return Some(4);
-        }
-        if self.otc > SUM_LIMIT {
-            return Some(8);
-        }
-        if self.margin > SUM_LIMIT {
-            return Some(12);
-        }
-        if self.adjusted > SUM_LIMIT {
-            return Some(16);
-        }
-        if self.scope > 1 {
-            return Some(20);
-        }
-        None
     }
 }
 
 impl Limited for AccountRecord {
+    ghost WIDTH = { 24 };
+
+    const WIDTH: usize = AccountRecord::WIDTH;
+
     ghost faulty = { account_fault };
 
     fn fault(&self) -> Option<u8> {
         if is_no_code(self.code) {
-            return Some(0);
+            Some(0)
+        } else if is_no_code(self.owner) {
+            Some(4)
+        } else if self.funds > MONEY_LIMIT {
+            Some(8)
+        } else if self.overnight > MONEY_LIMIT {
+            Some(16)
+        } else {
+            None
         }
-        if is_no_code(self.owner) {
-            return Some(4);
-        }
-        if self.funds > MONEY_LIMIT {
-            return Some(8);
-        }
-        if self.overnight > MONEY_LIMIT {
-            return Some(16);
-        }
-        None
     }
 }
 
-// The first field outside its limits in a table of records of so many bytes that begins at a place: its first byte.
-pub(crate) fn first_outside<R: Limited>(records: &[R], width: u16, from: u16) -> Option<u16>
-    requires { from + width * length records.now ≤ 4423 }
-    ensures { result ≡ first_fault R.faulty width from records.now }
+// The first field outside its limits in a table of records that begins at a place: its first byte.
+pub(crate) fn first_outside<R: Limited>(records: &[R], from: usize) -> Option<u16>
+    requires { from + R.WIDTH * length records.now ≤ 4423 }
+    ensures { result ≡ first_fault R.faulty R.WIDTH from records.now }
 {
-    let mut place = from;
-    for record in records {
+    for (i, record) in records.iter().enumerate() {
         if let Some(offset) = record.fault() {
-            return Some(place + u16::from(offset));
+            return Some((from + R::WIDTH * i + usize::from(offset)) as u16);
         }
-        place += width;
     }
     None
 }

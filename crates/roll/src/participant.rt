@@ -1,6 +1,9 @@
 // A participant as it stands in the roll.
 ghost use Rattle.std.specs.Prelude.{◌≡◌};
+ghost use Rattle.roll.specs.Limits.{enrolled};
 ghost use Rattle.roll.specs.Marks.{marked};
+
+use image::ParticipantRecord;
 
 #[derive(Clone, Copy, Debug, PartialEq, Eq)]
 pub struct Participant {
@@ -32,5 +35,22 @@ impl Participant {
         ensures is_in_default_and_else_as_before { self.new ≡ marked self.old }
     {
         self.in_default = true;
+    }
+}
+
+// Nobody is in default who is enrolled.
+impl From<ParticipantRecord> for Participant {
+    ghost from_gives = { λ source participant. participant ≡ enrolled source };
+
+    fn from(source: ParticipantRecord) -> Participant {
+        Participant {
+            code: source.code,
+            futures: source.futures,
+            otc: source.otc,
+            margin: source.margin,
+            adjusted: source.adjusted,
+            in_scope: source.scope == 1,
+            in_default: false,
+        }
     }
 }

@@ -11,53 +11,20 @@ use crate::account::Account;
 use crate::fault::RollFault;
 use crate::limits::first_outside;
 use crate::participant::Participant;
-use crate::table::{MOST_ACCOUNTS, MOST_PARTICIPANTS, Roll};
-use image::{AccountRecord, Image, ParticipantRecord};
-
-// The bytes of an image's head, of a participant and of an account.
-const HEAD: u16 = 7;
-
-const PARTICIPANT: u16 = 21;
-
-const ACCOUNT: u16 = 24;
+use crate::table::Roll;
+use image::{AccountRecord, HEAD, Image, ParticipantRecord};
+use rows::Table;
 
 // Tests every field, in the order of the image.
+#[tactic(auto, unfolding(crate::specs::Limits::field_fault))]
 fn tested(image: &Image) -> Result<(), RollFault>
     ensures { result ≡ told (field_fault (records_of image.now)) }
 {
     let participants = image.participants();
-    if let Some(place) = first_outside(participants, PARTICIPANT, HEAD) {
-        return Err(RollFault::Field(place));
-    }
-    let first = HEAD + PARTICIPANT * participants.len() as u16;
-    if let Some(place) = first_outside(image.accounts(), ACCOUNT, first) {
-        return Err(RollFault::Field(place));
-    }
-    Ok(())
-}
-
-// The participant that a record enrols.
-fn enrol(source: &ParticipantRecord) -> Participant
-    ensures { result ≡ enrolled source.now }
-{
-    Participant {
-        code: source.code,
-        futures: source.futures,
-        otc: source.otc,
-        margin: source.margin,
-        adjusted: source.adjusted,
-        in_scope: source.scope == 1,
-        in_default: false,
-    }
-}
-
-// The participants, one for each place from the first on; spare places stay.
-fn enrol_all(records: &[ParticipantRecord], table: &mut [Participant])
-    requires { length records.now ≤ length table.old }
-    ensures { table.new ≡ map enrolled records.now ++ drop (length records.now) table.old }
-{
-    for i in 0..records.len() {
-        table[i] = enrol(&records[i]);
+    let accounts = HEAD + ParticipantRecord::WIDTH * participants.len();
+    match first_outside(participants, HEAD).or_else(|| first_outside(image.accounts(), accounts)) {
+        Some(place) => Err(RollFault::Field(place)),
+        None => Ok(()),
     }
 }
 
@@ -74,31 +41,18 @@ fn open_account(source: &AccountRecord) -> Account
     }
 }
 
-// The accounts, one for each place from the first on; spare places stay.
-fn open_all(records: &[AccountRecord], table: &mut [Account])
-    requires room { length records.now ≤ length table.old }
-    requires faultless { AllByRecursion (λ r. account_fault r ≡ no_fault) records.now }
-    ensures { map balance_of table.new ≡ map opening_balance records.now ++ drop (length records.now) (map balance_of table.old) }
-{
-    for i in 0..records.len() {
-        table[i] = open_account(&records[i]);
-    }
-}
-
 // The roll of an image without a fault.
 fn enrol_image(image: &Image) -> Roll
     requires { field_fault (records_of image.now) ≡ no_fault }
     ensures { standing result ≡ enrolled_all (records_of image.now) }
 {
-    let mut participants = [Participant::BLANK; MOST_PARTICIPANTS];
-    enrol_all(image.participants(), &mut participants);
-    let mut accounts = [Account::blank(); MOST_ACCOUNTS];
-    open_all(image.accounts(), &mut accounts);
     Roll {
-        participants,
-        accounts,
-        participant_count: image.participants().len(),
-        account_count: image.accounts().len(),
+        participants: Table::from_row(
+            image.participants(),
+            Participant::BLANK,
+            |record| Participant::from(*record),
+        ),
+        accounts: Table::from_row(image.accounts(), Account::BLANK, open_account),
         defaults: 0,
     }
 }

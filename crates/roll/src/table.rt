@@ -1,19 +1,14 @@
-// The roll's tables.
+// The roll, in two tables.
 use crate::account::Account;
 use crate::participant::Participant;
+use image::{MOST_ACCOUNTS, MOST_PARTICIPANTS};
+use rows::Table;
 
-// The most participants and the most accounts of a roll.
-pub(crate) const MOST_PARTICIPANTS: usize = 64;
-
-pub(crate) const MOST_ACCOUNTS: usize = 128;
-
-// The first records of each table, as many as are counted, are the roll's.
+// The participants and the accounts, in order.
 #[derive(Clone, Copy)]
 pub struct Roll {
-    pub(crate) participants: [Participant; MOST_PARTICIPANTS],
-    pub(crate) accounts: [Account; MOST_ACCOUNTS],
-    pub(crate) participant_count: usize,
-    pub(crate) account_count: usize,
+    pub(crate) participants: Table<Participant, MOST_PARTICIPANTS>,
+    pub(crate) accounts: Table<Account, MOST_ACCOUNTS>,
     // how many defaulted in the present period
     pub(crate) defaults: usize,
 }

@@ -1,9 +1,10 @@
 -- Sums and counts over a row, one element more at a time, and rows that are filled place by place. Assumes nothing.
-use Rattle.std.proofs.Common.{◌≡◌, ℕ, ◌+◌, ◌-◌, ◌<◌, ◌≤◌, min, Bool, true, false, cond, List, [], ◌∷◌, ◌++◌, map, length, get_or, take, drop, set, fold, sum_by, count_by, sym, refl, ap, ◌∙◌, ⊎_elim, arith}
+use Rattle.std.proofs.Common.{◌≡◌, ℕ, ◌+◌, ◌-◌, ◌<◌, ◌≤◌, min, Bool, true, false, cond, List, [], ◌∷◌, ◌++◌, map, length, get_or, take, drop, set, fold, sum_by, count_by, sym, refl, ap, ◌∙◌, subst, ⊎_elim, arith}
 use mir.Val.{bool_byte}
-use Rattle.std.specs.List.{range_with_len}
+use Rattle.std.specs.List.{range_with_len, AllZip}
 use Rattle.std.proofs.lemmas.List.FromFn.{length-range_with_len, get_or-range_with_len}
-use Rattle.std.proofs.lemmas.List.{map_more, take_all, take_at, drop_more, drop_all, length-map, length-take-le, set_at, append_assoc}
+use Rattle.std.proofs.lemmas.List.{map_more, take_more, take_more_set, take_all, take_at, drop_more, drop_all, length-map, length-take, length-take-le, set_at, append_assoc}
+use Rattle.std.proofs.lemmas.Slice.Zip.{all_zipped_more}
 use Rattle.std.proofs.lemmas.Bool.{cases_lt}
 use Rattle.std.proofs.lemmas.List.Sums.{sum_by_more, sum_by-take-le}
 
@@ -107,6 +108,29 @@ as_far_as_both f xs old n is =
 -- where there is room for the whole row, all of it is written
 pub all_written : {X Y : Type 0} (f : X → Y) (xs : List X) (old : List Y) → length xs ≤ length old → map f (take (length old) xs) ++ drop (length xs) old ≡ map f xs ++ drop (length xs) old
 all_written f xs old room = ap (λ l. map f l ++ drop (length xs) old) (take_all (length old) xs room)
+
+-- no more can be taken than there are
+pub take_as_many : {X : Type 0} (xs : List X) (m n : ℕ) → n ≡ min (length xs) m → take n xs ≡ take m xs
+take_as_many xs m n is =
+    ⊎_elim
+    (λ (lt : length xs < m). take_all n xs (omega arith) ∙ sym (take_all m xs (omega arith)))
+    (λ (ge : m ≤ length xs). ap (λ k. take k xs) (let same : n ≡ m = omega arith in same))
+    (cases_lt (length xs) m)
+
+-- how a loop stands that makes something of each element: what stands in the first i places was made of the first i elements
+module _ {X Y : Type 0} (R : X → Y → Type 0) (xs : List X) where
+  pub made_more : (ys : List Y) (i : ℕ) (x : X) (y : Y) → i < length xs → i < length ys → x ≡ get_or xs i x → R x y → AllZip R (take i xs) (take i ys) → AllZip R (take (i + 1) xs) (take (i + 1) (set ys i y))
+  made_more ys i x y within room read made so =
+      let one : take i xs ++ x ∷ [] ≡ take (i + 1) xs = ap (λ z. take i xs ++ z ∷ []) read ∙ sym (take_more xs i x within) in
+      subst (λ l. AllZip R l (take (i + 1) (set ys i y))) one
+      (subst (AllZip R (take i xs ++ x ∷ [])) (sym (take_more_set ys i y room)) (all_zipped_more R (take i xs) (take i ys) x y so made))
+
+  -- once it is through, as far as both go
+  pub made_of_all : (ys : List Y) (m n i : ℕ) → length ys ≡ m → n ≡ min (length xs) m → i ≡ n → AllZip R (take i (take n xs)) (take i ys) → AllZip R (take m xs) (take (length xs) ys)
+  made_of_all ys m n i long is past so =
+      let first : take i (take n xs) ≡ take m xs = take_all i (take n xs) (omega (arith, length-take n xs)) ∙ take_as_many xs m n is in
+      let second : take i ys ≡ take (length xs) ys = take_as_many ys (length xs) i (omega arith) in
+      subst (λ l. AllZip R l (take (length xs) ys)) first (subst (AllZip R (take i (take n xs))) second so)
 
 -- what stands in a table up to its count, once so many places are written
 pub written_part : {Y : Type 0} (new rest : List Y) (n : ℕ) (table : List Y) → length new ≡ n → table ≡ new ++ rest → take n table ≡ new

@@ -1,5 +1,7 @@
 // Filling places that are lent.
 ghost use Rattle.std.specs.Prelude.{◌≡◌, ◌++◌, map, length, take, drop};
+ghost use Rattle.std.specs.Fn.{FnReturnsAt};
+ghost use Rattle.std.specs.List.{AllZip};
 ghost use Rattle.rows.specs.Filling.{TakesEach, GivesOfEach};
 
 // Writes what `make` gives of each item of the row, in order, into the places from the first on, as far as both go; spare
@@ -7,6 +9,7 @@ ghost use Rattle.rows.specs.Filling.{TakesEach, GivesOfEach};
 pub fn fill<S, T: Copy, F: Fn(&S) -> T>(row: &[S], places: &mut [T], make: F)
     requires takes_each_item { TakesEach F.Fn make row.now }
     ensures writes_what_is_made { (g : S → T) → GivesOfEach F.Fn make g → places.new ≡ map g (take (length places.old) row.now) ++ drop (length row.now) places.old }
+    ensures each_is_made { AllZip (FnReturnsAt F.Fn make) (take (length places.old) row.now) (take (length row.now) places.new) }
 {
     let within = &row[..row.len().min(places.len())];
     for (i, item) in within.iter().enumerate() {

@@ -1,6 +1,7 @@
 // Making tables.
 ghost use Rattle.std.specs.Prelude.{◌≡◌, ℕ, ◌<◌, min, [], map, take};
-ghost use Rattle.std.specs.List.{range_with_len};
+ghost use Rattle.std.specs.Fn.{FnReturnsAt};
+ghost use Rattle.std.specs.List.{AllZip, range_with_len};
 ghost use Rattle.rows.specs.Filling.{TakesEach, GivesOfEach};
 ghost use Rattle.rows.specs.Tables.{records, GivesOfNumbers};
 
@@ -22,6 +23,7 @@ impl<T: Copy, const N: usize> Table<T, N> {
     pub fn from_row<S, F: Fn(&S) -> T>(row: &[S], blank: T, make: F) -> Table<T, N>
         requires takes_each_item { TakesEach F.Fn make row.now }
         ensures holds_what_is_made { (g : S → T) → GivesOfEach F.Fn make g → records result ≡ map g (take N row.now) }
+        ensures each_is_made { AllZip (FnReturnsAt F.Fn make) (take N row.now) (records result) }
     {
         let mut places = [blank; N];
         fill(row, &mut places, make);

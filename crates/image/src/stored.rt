@@ -1,0 +1,63 @@
+// What is stored in an image in so many bytes.
+ghost use Rattle.std.specs.Prelude.{◌≡◌, ℕ, ◌+◌, ◌≤◌, List, length, take, drop};
+ghost use Rattle.image.specs.Layout.{number_at};
+
+// What is stored in a fixed number of bytes.
+pub(crate) trait Stored {
+    // How many bytes it has.
+    ghost WIDTH: { ℕ };
+
+    const WIDTH: usize;
+
+    // What the bytes from a place on give.
+    ghost stored_at: { List ℕ → ℕ → Self };
+
+    // Reads it at a place.
+    fn read_at(bytes: &[u8], at: usize) -> Self
+        requires { at + WIDTH ≤ length bytes.now }
+        ensures { result ≡ stored_at bytes.now at };
+}
+
+// As many bytes as are asked for, from a place on.
+fn bytes_at<const N: usize>(bytes: &[u8], at: usize) -> [u8; N]
+    requires { at + N ≤ length bytes.now }
+    ensures { result ≡ take N (drop at bytes.now) }
+{
+    *bytes[at..].first_chunk().unwrap()
+}
+
+impl Stored for u8 {
+    ghost WIDTH = { 1 };
+
+    const WIDTH: usize = 1;
+
+    ghost stored_at = { λ bytes at. number_at at 1 bytes };
+
+    fn read_at(bytes: &[u8], at: usize) -> u8 {
+        bytes[at]
+    }
+}
+
+impl Stored for u32 {
+    ghost WIDTH = { 4 };
+
+    const WIDTH: usize = 4;
+
+    ghost stored_at = { λ bytes at. number_at at 4 bytes };
+
+    fn read_at(bytes: &[u8], at: usize) -> u32 {
+        u32::from_be_bytes(bytes_at(bytes, at))
+    }
+}
+
+impl Stored for u64 {
+    ghost WIDTH = { 8 };
+
+    const WIDTH: usize = 8;
+
+    ghost stored_at = { λ bytes at. number_at at 8 bytes };
+
+    fn read_at(bytes: &[u8], at: usize) -> u64 {
+        u64::from_be_bytes(bytes_at(bytes, at))
+    }
+}
