@@ -104,6 +104,10 @@ as_far_as_both f xs old n is =
     ∙ ap (λ l. map f (take (length old) xs) ++ l) (drop_all (length old) old (omega arith) ∙ sym (drop_all (length xs) old ge)))
     (cases_lt (length xs) (length old))
 
+-- where there is room for the whole row, all of it is written
+pub all_written : {X Y : Type 0} (f : X → Y) (xs : List X) (old : List Y) → length xs ≤ length old → map f (take (length old) xs) ++ drop (length xs) old ≡ map f xs ++ drop (length xs) old
+all_written f xs old room = ap (λ l. map f l ++ drop (length xs) old) (take_all (length old) xs room)
+
 -- what stands in a table up to its count, once so many places are written
 pub written_part : {Y : Type 0} (new rest : List Y) (n : ℕ) (table : List Y) → length new ≡ n → table ≡ new ++ rest → take n table ≡ new
 written_part new rest n table long is = ap (take n) is ∙ take_at new rest n long

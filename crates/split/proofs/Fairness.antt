@@ -10,7 +10,7 @@ use Rattle.std.proofs.lemmas.Bool.{cases_lt, cases_order, cases_Bool, le-ltb, lt
 use Rattle.std.proofs.lemmas.Bool.Decides.{nat_tests}
 use Rattle.split.specs.declared.bearer.Stake.{Stake}
 use Rattle.split.specs.declared.division.Division.{Division}
-use Rattle.split.specs.Refusals.{answer, with_code, repeated}
+use Rattle.split.specs.Refusals.{answer, with_code, shares_code, repeated}
 use Rattle.split.specs.Shares.{all_weights, divide, divisions, precedes, rank, odd_dollars, takes_odd, share}
 use Rattle.rows.proofs.Counts.{all_of, bit, none_passes, fewer, bit_below, sum_by-both, sum_by-same}
 use Rattle.split.proofs.Orders.{Told, Strict, first_in_rank}
@@ -49,6 +49,7 @@ once_apart (x ∷ xs) h =
     )
 
 apart_codes : (xs : List Stake) → repeated xs ≡ 0 → Apart xs
+unfolding shares_code
 apart_codes xs e =
     once_apart xs (All-weaker (λ x. ltb 1 (with_code x.code xs) ≡ false) (λ x. with_code x.code xs ≤ 1) (λ x h. ltb-false 1 (with_code x.code xs) h) xs
     (none_passes (λ x. ltb 1 (with_code x.code xs)) xs e))
@@ -183,6 +184,7 @@ module _ (sum : ℕ) (xs ys : List Stake) (moved : IsPermutation xs ys) where
       ∙ ap (λ n. (divide sum (all_weights xs) x).whole + bit (ltb (rank (divisions sum xs) (divide sum (all_weights xs) x)) n)) same_odd
 
   same_repeated : repeated ys ≡ repeated xs
+  unfolding shares_code
   same_repeated =
       sum_by-same (λ (x : Stake). bit (ltb 1 (with_code x.code ys))) (λ x. bit (ltb 1 (with_code x.code xs))) ys
       (all_of (λ x. bit (ltb 1 (with_code x.code ys)) ≡ bit (ltb 1 (with_code x.code xs))) (λ x. ap (λ n. bit (ltb 1 n)) (sum_by-IsPermutation (λ (y : Stake). bit (eqb y.code x.code)) xs ys moved)) ys)

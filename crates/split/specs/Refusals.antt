@@ -19,9 +19,13 @@ too_heavy xs = count_by (λ x. ltb 9000000000 x.weight) xs
 abbrev pub with_code : ℕ → List Stake → ℕ
 with_code code xs = count_by (λ x. nat_eq x.code code) xs
 
+-- Another bearer of the row has its code: its own counts as one.
+unfoldable pub shares_code : List Stake → Stake → Bool
+shares_code xs x = ltb 1 (with_code x.code xs)
+
 -- How many bearers share their code with another.
 abbrev pub repeated : List Stake → ℕ
-repeated xs = count_by (λ x. ltb 1 (with_code x.code xs)) xs
+repeated xs = count_by (shares_code xs) xs
 
 -- The sum is above 1,000,000,000, a weight above 9,000,000,000, there are more than 128 bearers, or fewer places than bearers.
 abbrev pub beyond_limits : ℕ → ℕ → List Stake → Bool

@@ -1,9 +1,13 @@
 // One bearer's division, every bearer's, and which of two comes first for an odd dollar.
-ghost use Rattle.std.specs.Prelude.{◌≡◌, ◌≤◌, ◌++◌, map, length, drop, sum_by};
+ghost use Rattle.std.specs.Prelude.{◌≡◌, ◌≤◌, map, length, sum_by};
+ghost use Rattle.rows.specs.Tables.{records};
 ghost use Rattle.split.specs.Refusals.{too_heavy};
 ghost use Rattle.split.specs.Shares.{precedes as comes_first, divide as division_of, rank as rank_of};
 
 use crate::bearer::Bearer;
+use crate::limits::MOST_BEARERS;
+use rows::Table;
+use std::cmp::Reverse;
 
 // What sum x weight / all weights comes to for one bearer.
 #[derive(Clone, Copy, Debug, PartialEq, Eq)]
@@ -29,22 +33,15 @@ impl Division {
     pub fn precedes(&self, other: &Division) -> bool
         ensures larger_remainder_then_lower_code { result ≡ comes_first self.now other.now }
     {
-        if self.remainder == other.remainder {
-            self.code < other.code
-        } else {
-            self.remainder > other.remainder
-        }
+        (Reverse(self.remainder), self.code) < (Reverse(other.remainder), other.code)
     }
 
     // How many of the row come first.
+    #[tactic(auto, unfolding(crate::specs::Shares::rank))]
     pub fn rank(&self, row: &[Division]) -> usize
         ensures counts_those_before { result ≡ rank_of row.now self.now }
     {
-        let mut count = 0;
-        for other in row {
-            count += usize::from(other.precedes(self));
-        }
-        count
+        row.iter().filter(|other| other.precedes(self)).count()
     }
 }
 
@@ -57,26 +54,30 @@ fn divide<B: Bearer>(sum: u64, total: u64, bearer: &B) -> Division
     let code = bearer.code();
     let weight = bearer.weight();
     let product = sum * weight;
-    let whole = if total == 0 { 0 } else { product / total };
-    let remainder = if total == 0 { product } else { product % total };
     Division {
         code,
         weight,
-        whole,
-        remainder,
+        whole: product.checked_div(total).unwrap_or(0),
+        remainder: product.checked_rem(total).unwrap_or(product),
     }
 }
 
-// Every bearer's division, one for each place from the first on; spare places stay.
-pub(crate) fn divide_all<B: Bearer>(sum: u64, total: u64, bearers: &[B], table: &mut [Division])
+// Every bearer's division, in the order of the row.
+pub(crate) fn divide_all<B: Bearer>(
+    sum: u64,
+    total: u64,
+    bearers: &[B],
+) -> Table<Division, MOST_BEARERS>
     requires small { sum ≤ 1000000000 }
     requires light { too_heavy (map B.bears bearers.now) ≡ 0 }
-    requires room { length bearers.now ≤ length table.old }
-    ensures { table.new ≡ map (division_of sum total) (map B.bears bearers.now) ++ drop (length bearers.now) table.old }
+    requires few { length bearers.now ≤ 128 }
+    ensures { records result ≡ map (division_of sum total) (map B.bears bearers.now) }
 {
-    for i in 0..bearers.len() {
-        table[i] = divide(sum, total, &bearers[i]);
-    }
+    Table::from_row(
+        bearers,
+        Division::BLANK,
+        |bearer| divide(sum, total, bearer),
+    )
 }
 
 // All the whole parts of a row together.
@@ -84,9 +85,5 @@ pub(crate) fn whole_parts(row: &[Division]) -> u64
     requires { sum_by (λ d. d.whole) row.now ≤ 1000000000 }
     ensures { result ≡ sum_by (λ d. d.whole) row.now }
 {
-    let mut count = 0;
-    for division in row {
-        count += division.whole;
-    }
-    count
+    row.iter().map(|division| division.whole).sum()
 }

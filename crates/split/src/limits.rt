@@ -1,7 +1,7 @@
 // What is tested before a split: limits, codes, weight.
 ghost use Rattle.std.specs.Prelude.{◌≡◌, ◌≤◌, map, IfOk};
 ghost use Rattle.std.specs.Result.{result_map_both as told};
-ghost use Rattle.split.specs.Refusals.{answer, too_heavy, with_code, repeated as repeats};
+ghost use Rattle.split.specs.Refusals.{answer, too_heavy, with_code, shares_code, repeated as repeats};
 ghost use Rattle.split.specs.Shares.{all_weights};
 
 use crate::bearer::Bearer;
@@ -18,33 +18,38 @@ pub(crate) const MOST_BEARERS: usize = 128;
 fn heavy<B: Bearer>(bearers: &[B]) -> usize
     ensures { result ≡ too_heavy (map B.bears bearers.now) }
 {
-    let mut count = 0;
-    for bearer in bearers {
-        count += usize::from(bearer.weight() > WEIGHT_LIMIT);
-    }
-    count
+    bearers
+        .iter()
+        .filter(|bearer| bearer.weight() > WEIGHT_LIMIT)
+        .count()
 }
 
 // How many bearers have this code.
 fn bearing<B: Bearer>(code: u32, bearers: &[B]) -> usize
     ensures { result ≡ with_code code (map B.bears bearers.now) }
 {
-    let mut count = 0;
-    for bearer in bearers {
-        count += usize::from(bearer.code() == code);
-    }
-    count
+    bearers
+        .iter()
+        .filter(|bearer| bearer.code() == code)
+        .count()
+}
+
+// Does another bearer of the row have its code? Its own counts as one.
+#[tactic(auto, unfolding(crate::specs::Refusals::shares_code))]
+fn shares_its_code<B: Bearer>(bearer: &B, row: &[B]) -> bool
+    ensures { result ≡ shares_code (map B.bears row.now) (B.bears bearer.now) }
+{
+    bearing(bearer.code(), row) > 1
 }
 
 // How many bearers share their code with another.
 fn repeated<B: Bearer>(bearers: &[B]) -> usize
     ensures { result ≡ repeats (map B.bears bearers.now) }
 {
-    let mut count = 0;
-    for bearer in bearers {
-        count += usize::from(bearing(bearer.code(), bearers) > 1);
-    }
-    count
+    bearers
+        .iter()
+        .filter(|bearer| shares_its_code(*bearer, bearers))
+        .count()
 }
 
 // All the weights together, where they are known to be few and small.
@@ -52,14 +57,11 @@ fn weigh<B: Bearer>(bearers: &[B]) -> u64
     requires { all_weights (map B.bears bearers.now) ≤ 1152000000000 }
     ensures { result ≡ all_weights (map B.bears bearers.now) }
 {
-    let mut total = 0;
-    for bearer in bearers {
-        total += bearer.weight();
-    }
-    total
+    bearers.iter().map(|bearer| bearer.weight()).sum()
 }
 
 // Tests what a split asks, in the order of the refusals, and answers all the weights together.
+#[tactic(auto, unfolding(crate::specs::Refusals::answer), using(crate::proofs::Accepting::as_many, crate::proofs::Accepting::weights_fit))]
 pub(crate) fn tested<B: Bearer>(sum: u64, places: usize, bearers: &[B]) -> Result<u64, Refusal>
     ensures answers { told (λ _. tt) (λ e. e) result ≡ answer sum places (map B.bears bearers.now) }
     ensures weighs { IfOk result (λ total. total ≡ all_weights (map B.bears bearers.now)) }

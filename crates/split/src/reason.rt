@@ -35,7 +35,7 @@ impl Reason {
 }
 
 // The reason of one division of the row.
-fn reckoned(total: u64, odd: u64, row: &[Division], division: Division) -> Reason
+pub(crate) fn reckoned(total: u64, odd: u64, row: &[Division], division: Division) -> Reason
     requires { division.whole ≤ 1000000000 }
     ensures { result ≡ reckon total odd row.now division }
 {
@@ -49,16 +49,5 @@ fn reckoned(total: u64, odd: u64, row: &[Division], division: Division) -> Reaso
         rank,
         extra,
         share,
-    }
-}
-
-// The reasons of a whole row, one for each place from the first on; spare places stay.
-pub(crate) fn reckon_all(total: u64, odd: u64, row: &[Division], reasons: &mut [Reason])
-    requires light { AllByRecursion (λ d. d.whole ≤ 1000000000) row.now }
-    requires room { length row.now ≤ length reasons.old }
-    ensures { reasons.new ≡ map (reckon total odd row.now) row.now ++ drop (length row.now) reasons.old }
-{
-    for i in 0..row.len() {
-        reasons[i] = reckoned(total, odd, row, row[i]);
     }
 }

@@ -6,46 +6,33 @@ ghost use Rattle.split.specs.Refusals.{answer, placed};
 ghost use Rattle.split.specs.Shares.{odd_dollars, shares as shares_of};
 
 use crate::bearer::Bearer;
-use crate::division::{Division, divide_all, whole_parts};
+use crate::division::{divide_all, whole_parts};
 use crate::limits::{MOST_BEARERS, tested};
-use crate::reason::{Reason, reckon_all};
+use crate::reason::{Reason, reckoned};
 use crate::refusal::Refusal;
-
-// The reasons of a row of divisions: the odd dollars are what their whole parts leave of the sum.
-fn reckon_row(sum: u64, total: u64, row: &[Division], reasons: &mut [Reason])
-    requires small { sum ≤ 1000000000 }
-    requires within { sum_by (λ d. d.whole) row.now ≤ sum }
-    requires room { length row.now ≤ length reasons.old }
-    ensures { reasons.new ≡ map (reckon total (odd_dollars sum row.now) row.now) row.now ++ drop (length row.now) reasons.old }
-{
-    let odd = sum - whole_parts(row);
-    reckon_all(total, odd, row, reasons);
-}
+use rows::fill;
 
 // Why each bearer gets its share of the sum. Refused as `split` is, by the number of places that are lent.
+#[tactic(auto, using(crate::proofs::Reckoning::shares_are, crate::proofs::Accepting::accepted, crate::proofs::Accepting::as_many, crate::proofs::Reckoning::row_within))]
 pub fn explain<B: Bearer>(sum: u64, bearers: &[B], reasons: &mut [Reason]) -> Result<(), Refusal>
     ensures answers_as_defined { result ≡ answer sum (length reasons.old) (map B.bears bearers.now) }
     ensures places_as_defined { reasons.new ≡ placed result (reasons_of sum (map B.bears bearers.now)) reasons.old }
     ensures reasons_end_in_the_shares { map (λ reason. reason.share) (reasons_of sum (map B.bears bearers.now)) ≡ shares_of sum (map B.bears bearers.now) }
 {
     let total = tested(sum, reasons.len(), bearers)?;
-    let mut table = [Division::BLANK; MOST_BEARERS];
-    divide_all(sum, total, bearers, &mut table);
-    reckon_row(sum, total, &table[0..bearers.len()], reasons);
+    let divisions = divide_all(sum, total, bearers);
+    let row = divisions.as_slice();
+    let odd = sum - whole_parts(row);
+    fill(
+        row,
+        reasons,
+        |division| reckoned(total, odd, row, *division),
+    );
     Ok(())
 }
 
-// Copies each share out of its reason; spare places stay.
-fn share_out(reasons: &[Reason], shares: &mut [u64])
-    requires { length reasons.now ≤ length shares.old }
-    ensures { shares.new ≡ map (λ reason. reason.share) reasons.now ++ drop (length reasons.now) shares.old }
-{
-    for i in 0..reasons.len() {
-        shares[i] = reasons[i].share;
-    }
-}
-
 // Splits the sum among the bearers in proportion to their weights, one share for each place from the first on.
+#[tactic(auto, using(crate::proofs::Promises::same_in_any_order, crate::proofs::Accepting::as_many, crate::proofs::Accepting::too_few_places, crate::proofs::Accepting::enough_places))]
 pub fn split<B: Bearer>(sum: u64, bearers: &[B], shares: &mut [u64]) -> Result<(), Refusal>
     ensures answers_as_defined { result ≡ answer sum (length shares.old) (map B.bears bearers.now) }
     ensures places_as_defined { shares.new ≡ placed result (shares_of sum (map B.bears bearers.now)) shares.old }
@@ -57,6 +44,6 @@ pub fn split<B: Bearer>(sum: u64, bearers: &[B], shares: &mut [u64]) -> Result<(
     }
     let mut reasons = [Reason::BLANK; MOST_BEARERS];
     explain(sum, bearers, &mut reasons)?;
-    share_out(&reasons[0..bearers.len()], shares);
+    fill(&reasons[..bearers.len()], shares, |reason| reason.share);
     Ok(())
 }

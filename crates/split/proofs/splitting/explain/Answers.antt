@@ -1,49 +1,30 @@
-use Rattle.std.proofs.Common.{◌-◌, ◌≤◌, map, length, take, sum_by, sym, ap, arith, rules}
-use Rattle.std.proofs.lemmas.List.{length-map}
+use Rattle.std.proofs.Common.{◌-◌, ◌≤◌, map, length, sym, ap, ◌∙◌, arith, rules}
+use Rattle.std.proofs.ByRecursion.{all-has}
 use Rattle.split.specs.declared.division.Division.{Division}
+use Rattle.split.specs.Reasons.{reckon}
+use Rattle.split.specs.Shares.{odd_dollars}
 use Rattle.split.proofs.Accepting.{accepted}
-use Rattle.split.proofs.Quotients.{wholes_within}
-use Rattle.split.proofs.Reckoning.{row_is, divisions_long, explained, shares_are}
+use Rattle.split.proofs.Reckoning.{row_is, row_within, wholes_small, explained}
 use Rattle.split.proofs.splitting.explain.Goals as goal
 
-pub divide_all-requires : goal.divide_all-requires
-divide_all-requires g c =
+pub fill-requires : goal.fill-requires
+fill-requires g c =
     let stakes = map g.B.Bearer.bears c.args.bearers.now in
+    let row = c.as_slice-row.result.now in
     let ok = accepted c.args.sum (length c.args.reasons.now) stakes (sym c.in_ok-total.ensures.answers) in
-    record { small = ok.small; light = ok.light; room = omega (arith, ok.few, length-map c.args.bearers.now g.B.Bearer.bears) }
+    let within = row_within c.args.sum c.in_ok-total.total stakes row c.in_ok-total.ensures.weighs (c.as_slice-row.ensures.are_its_records ∙ c.divide_all-divisions.ensures) in
+    let small = wholes_small row 1000000000 (omega (arith, ok.small, within)) in
+    record { takes_each_item = λ d in' l p q s t k o u v. all-has (λ (x : Division). x.whole ≤ 1000000000) row d.now small in' }
 
-pub slice_bounds-reckon_row-end : goal.slice_bounds-reckon_row-end
-slice_bounds-reckon_row-end g c =
+pub returns-clause-places_as_defined : goal.returns-clause-places_as_defined
+unfolding odd_dollars
+returns-clause-places_as_defined g c =
     let stakes = map g.B.Bearer.bears c.args.bearers.now in
-    let ok = accepted c.args.sum (length c.args.reasons.now) stakes (sym c.in_ok-total.ensures.answers) in
-    let few : length c.args.bearers.now ≤ 128 = omega (arith, ok.few, length-map c.args.bearers.now g.B.Bearer.bears) in
-    search rules
-
-pub reckon_row-requires : goal.reckon_row-requires
-reckon_row-requires g c =
-    let stakes = map g.B.Bearer.bears c.args.bearers.now in
-    let ok = accepted c.args.sum (length c.args.reasons.now) stakes (sym c.in_ok-total.ensures.answers) in
-    let row = row_is c.args.sum c.in_ok-total.total (length c.args.bearers.now) stakes c.divide_all.new.table _ (sym (length-map c.args.bearers.now g.B.Bearer.bears)) c.in_ok-total.ensures.weighs c.divide_all.ensures in
-    record {
-      small = ok.small;
-      within = omega (arith, ap (sum_by (λ (d : Division). d.whole)) row, wholes_within c.args.sum stakes);
-      room = omega (arith, ap length row, divisions_long c.args.sum stakes, ok.room);
-    }
-
-pub returns : goal.returns
-returns g c =
-    let stakes = map g.B.Bearer.bears c.args.bearers.now in
-    let row = row_is c.args.sum c.in_ok-total.total (length c.args.bearers.now) stakes c.divide_all.new.table _ (sym (length-map c.args.bearers.now g.B.Bearer.bears)) c.in_ok-total.ensures.weighs c.divide_all.ensures in
-    record {
-      answers_as_defined = c.in_ok-total.ensures.answers;
-      places_as_defined = explained c.args.sum c.in_ok-total.total stakes (take (length c.args.bearers.now - 0) c.divide_all.new.table) c.reckon_row.new.reasons c.args.reasons.now
-          row c.in_ok-total.ensures.weighs c.reckon_row.ensures;
-      reasons_end_in_the_shares = shares_are c.args.sum stakes;
-    }
-
-pub returns-in_err-total : goal.returns-in_err-total
-returns-in_err-total g c = record {
-  answers_as_defined = search rules;
-  places_as_defined = search rules;
-  reasons_end_in_the_shares = shares_are c.args.sum (map g.B.Bearer.bears c.args.bearers.now);
-}
+    let sum = c.args.sum in
+    let total = c.in_ok-total.total in
+    let row = c.as_slice-row.result.now in
+    let odd = sum - c.whole_parts.result in
+    let ok = accepted sum (length c.args.reasons.now) stakes (sym c.in_ok-total.ensures.answers) in
+    explained sum total odd stakes row c.fill.new.places c.args.reasons.now
+    (row_is sum total stakes row c.in_ok-total.ensures.weighs (c.as_slice-row.ensures.are_its_records ∙ c.divide_all-divisions.ensures)) c.in_ok-total.ensures.weighs
+    (ap (λ n. sum - n) c.whole_parts.ensures) ok.room (c.fill.ensures.writes_what_is_made (reckon total odd row) (λ x y h. search rules))
