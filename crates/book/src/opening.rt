@@ -16,13 +16,13 @@ use basis::Basis;
 use roll::Roll;
 
 // One check, over its whole table.
+#[tactic(auto, unfolding(crate::specs::Opening::passed))]
 fn pass(check: RollCheck, roll: &Roll) -> Result<(), OpenFault>
     ensures { result ≡ passed check (standing roll.now) }
 {
-    match check.first_failing(roll) {
-        Some(place) => Err(OpenFault::Record(check, place)),
-        None => Ok(()),
-    }
+    check
+        .first_failing(roll)
+        .map_or(Ok(()), |place| Err(OpenFault::Record(check, place)))
 }
 
 // The checks of the records against each other, in their order.
