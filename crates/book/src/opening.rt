@@ -5,7 +5,7 @@ ghost use Rattle.roll.specs.Holdable.{Holdable};
 ghost use Rattle.roll.specs.Limits.{roll_bytes};
 ghost use Rattle.roll.specs.Standing.{standing};
 ghost use Rattle.book.specs.After.{model_after};
-ghost use Rattle.book.specs.Model.{model, fresh, empty_roll, standing_of};
+ghost use Rattle.book.specs.Model.{model, fresh as fresh_model, empty_roll, standing_of};
 ghost use Rattle.book.specs.Opening.{passed, checked as checked_as_defined, opening, check_value, Tells};
 
 use crate::checks::RollCheck;
@@ -35,28 +35,32 @@ fn checked(roll: &Roll) -> Result<(), OpenFault>
     pass(RollCheck::AboveLimit, roll)
 }
 
+// A roll that a book is opened with: one that a book can hold, with nobody counted as defaulted.
+#[derive(Clone, Copy)]
+struct FreshRoll {
+    roll: Roll,
+    ghost holdable: { Holdable (standing roll) },
+    ghost undefaulted: { (standing roll).defaults ≡ 0 },
+}
+
 // The roll that an image opens a book with, or the first fault: what both the opening and the check go by.
-fn admitted(image: &[u8]) -> Result<Roll, OpenFault>
-    ensures decides { result_map_both standing (λ fault. fault) result ≡ opening image.now }
-    ensures exact { IfOk result (λ roll. roll_bytes (standing roll) ≡ image.now) }
-    ensures holdable { IfOk result (λ roll. Holdable (standing roll)) }
-    ensures undefaulted { IfOk result (λ roll. (standing roll).defaults ≡ 0) }
+fn admitted(image: &[u8]) -> Result<FreshRoll, OpenFault>
+    ensures decides { result_map_both (λ fresh. standing fresh.roll) (λ fault. fault) result ≡ opening image.now }
+    ensures exact { IfOk result (λ fresh. roll_bytes (standing fresh.roll) ≡ image.now) }
 {
     let roll = roll::read(image)?;
     checked(&roll)?;
-    Ok(roll)
+    Ok(FreshRoll { roll })
 }
 
 // A book on a roll, with nothing told yet.
-fn fresh_book<B: Basis>(basis: B, roll: Roll) -> Book<B>
-    requires holdable { Holdable (standing roll) }
-    requires undefaulted { (standing roll).defaults ≡ 0 }
-    ensures stands { model result ≡ fresh basis (standing roll) }
-    ensures same { result.roll ≡ roll }
+fn fresh_book<B: Basis>(basis: B, fresh: FreshRoll) -> Book<B>
+    ensures stands { model result ≡ fresh_model basis (standing fresh.roll) }
+    ensures same { result.roll ≡ fresh.roll }
 {
     Book {
         basis,
-        roll,
+        roll: fresh.roll,
         period: Period::Closed,
         owed: [0; MOST_PARTICIPANTS],
         outstanding: [Outstanding::NONE; MOST_ACCOUNTS],
@@ -70,9 +74,14 @@ fn fresh_book<B: Basis>(basis: B, roll: Roll) -> Book<B>
 impl<B: Basis> Book<B> {
     // A book before its first opening: no participants and no accounts.
     pub fn new(basis: B) -> Book<B>
-        ensures is_empty { model result ≡ fresh basis empty_roll }
+        ensures is_empty { model result ≡ fresh_model basis empty_roll }
     {
-        fresh_book(basis, Roll::empty())
+        fresh_book(
+            basis,
+            FreshRoll {
+                roll: Roll::empty(),
+            },
+        )
     }
 
     // Opens the book afresh, on the basis and the image that are given.
@@ -82,8 +91,7 @@ impl<B: Basis> Book<B> {
         ensures refused_leaves_every_field { OnErr result (self.new ≡ self.old) }
         ensures records_have_the_bytes_read { OnOk result (roll_bytes (standing_of (model self.new)) ≡ image.now) }
     {
-        let roll = admitted(image)?;
-        *self = fresh_book(basis, roll);
+        *self = fresh_book(basis, admitted(image)?);
         Ok(())
     }
 
