@@ -6,6 +6,3 @@ use Rattle.book.proofs.opening.admitted.Goals as goal
 
 pub invariant_of-result-clause-holdable : goal.invariant_of-result-clause-holdable
 invariant_of-result-clause-holdable c = holdable (standing c.in_ok-roll.roll) c.in_ok-roll.ensures.fields_are_within_limits (sym c.in_ok-checked.ensures)
-
-pub returns-clause-decides : goal.returns-clause-decides
-returns-clause-decides c = ap (λ r. and_then r (Ok (standing c.in_ok-roll.roll))) c.in_ok-checked.ensures ∙ ap opened c.in_ok-roll.ensures.reads_as_defined

@@ -7,11 +7,5 @@ use Rattle.book.specs.Model.{model}
 use Rattle.book.proofs.Modelling.{modelled}
 use Rattle.book.proofs.state.Book.open.Goals as goal
 
-pub returns-clause-answers_as_defined : goal.returns-clause-answers_as_defined
-returns-clause-answers_as_defined g c = ap (result_map_both (λ _. tt) (λ fault. fault)) c.in_ok-admitted.ensures.decides
-
-pub returns-clause-stands_as_defined : goal.returns-clause-stands_as_defined
-returns-clause-stands_as_defined g c = c.fresh_book.ensures.stands ∙ ap (λ r. model_after r c.args.basis (model c.args.self.now)) c.in_ok-admitted.ensures.decides
-
 pub returns-clause-records_have_the_bytes_read : goal.returns-clause-records_have_the_bytes_read
 returns-clause-records_have_the_bytes_read g c = ap roll_bytes (modelled c.fresh_book.result) ∙ ap (λ roll. roll_bytes (standing roll)) c.fresh_book.ensures.same ∙ c.in_ok-admitted.ensures.exact
