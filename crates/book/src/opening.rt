@@ -85,6 +85,7 @@ impl<B: Basis> Book<B> {
     }
 
     // Opens the book afresh, on the basis and the image that are given.
+    #[tactic(auto, using(crate::proofs::Modelling::modelled))]
     pub fn open(&mut self, basis: B, image: &[u8]) -> Result<(), OpenFault>
         ensures answers_as_defined { result ≡ result_map_both (λ _. tt) (λ fault. fault) (opening image.now) }
         ensures stands_as_defined { model self.new ≡ model_after (opening image.now) basis (model self.old) }
@@ -104,6 +105,7 @@ impl<B: Basis> Book<B> {
     }
 
     // The basis on which it was opened.
+    #[tactic(auto, unfolding(crate::specs::Model::model))]
     pub fn basis(&self) -> B
         ensures is_the_books_basis { result ≡ (model self.now).basis }
     {
