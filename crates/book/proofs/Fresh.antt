@@ -1,5 +1,5 @@
 -- A book with nothing told yet: nobody owes, nothing is outstanding. Assumes nothing.
-use Rattle.std.proofs.Common.{◌≡◌, ℕ, zero, suc, ◌+◌, ◌≤◌, Bool, true, false, cond, eqb, ltb, List, [], ◌∷◌, map, length, replicate, sum_by, count_by, refl, ap, ◌∙◌, arith}
+use Rattle.std.proofs.Common.{◌≡◌, ℕ, zero, suc, ◌≤◌, ltb, List, [], ◌∷◌, map, length, replicate, sum_by, count_by, refl, ap, ◌∙◌, arith}
 use Rattle.rows.proofs.Rows.{sum_by-map}
 use Rattle.roll.specs.declared.participant.Participant.{Participant}
 use Rattle.roll.specs.Holdable.{participants_above}

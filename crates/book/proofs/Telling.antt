@@ -1,5 +1,5 @@
 -- The check's answer, from which number and place can be read off. Assumes nothing.
-use Rattle.std.proofs.Common.{◌≡◌, ℕ, zero, suc, ◌+◌, ◌*◌, ◌/◌, ◌%◌, ◌<◌, ◌≤◌, Bool, true, false, cond, List, Some, None, Ok, Err, Option, Result, IfSome, IfErr, sym, refl, subst, arith}
+use Rattle.std.proofs.Common.{◌≡◌, ℕ, zero, suc, ◌+◌, ◌<◌, ◌≤◌, Bool, List, Some, None, Ok, Err, Option, Result, IfSome, IfErr, sym, refl, subst, arith}
 use Rattle.std.proofs.lemmas.Option.{IfSome_then}
 use Rattle.roll.specs.declared.fault.RollFault.{RollFault}
 use Rattle.roll.specs.Faults as roll
@@ -10,7 +10,7 @@ use Rattle.book.specs.declared.checks.RollCheck.{RollCheck}
 use Rattle.book.specs.declared.checks.RollCheck.TheVariants.{ParticipantTwice, AccountTwice, OwnerUnknown, AboveLimit}
 use Rattle.book.specs.declared.fault.OpenFault.{OpenFault}
 use Rattle.book.specs.Checks.{table_length, failed, first_from, first_place}
-use Rattle.book.specs.Faults.{number_of, place_of}
+use Rattle.book.specs.Faults.{place_of}
 use Rattle.book.specs.Opening.{passed_unless, passed, and_then, checked, opened, opening, check_value, Tells}
 
 -- the place of the fault, if there is one, is below 10,000
@@ -18,22 +18,15 @@ abbrev PlaceFits : {Y : Type 0} → Result Y OpenFault → Type 0
 PlaceFits r = IfErr r (λ fault. place_of fault < 10000)
 
 -- the first place at which a test holds is one of those looked at
-either_within : (k n : ℕ) (b : Bool) (later : Option ℕ) → IfSome later (λ found. found < k + 1 + n) → IfSome (cond b (Some k) later) (λ found. found < k + suc n)
-either_within k n true later past = omega arith
-either_within k n false later past = IfSome_then later past (λ found h. omega arith)
-
 first_within : (test : ℕ → Bool) (n k : ℕ) → IfSome (first_from test k n) (λ found. found < k + n)
 unfolding first_from
 first_within test zero k = tt
-first_within test (suc n) k = either_within k n (test k) (first_from test (k + 1) n) (first_within test n (k + 1))
+first_within test (suc n) k = let later = first_within test n (k + 1) in grind arith
 
 -- a record that fails a check is one of its table
 module _ (s : Standing) (few : Few s) where
   table_small : (check : RollCheck) → table_length check s ≤ 128
-  table_small ParticipantTwice = omega arith
-  table_small AccountTwice = omega arith
-  table_small OwnerUnknown = omega arith
-  table_small AboveLimit = omega arith
+  table_small check = grind (arith, few)
 
   refused_fits : (check : RollCheck) (found : Option ℕ) → IfSome found (λ place. place < 10000) → PlaceFits (passed_unless check found)
   refused_fits check None small = tt

@@ -9,7 +9,7 @@ use roll::{Coded, Roll, with_code};
 // The most that one participant's accounts hold together.
 const PARTICIPANT_LIMIT: u64 = 9_000_000_000;
 
-// The checks, in their order.
+// The checks, in their order. An enum and no closures: a fault carries the check that a record failed, and callers compare it.
 #[derive(Clone, Copy, Debug, PartialEq, Eq)]
 pub enum RollCheck {
     // A participant's code was used by an earlier participant.

@@ -5,7 +5,7 @@ ghost use Rattle.roll.specs.Holdable.{Holdable};
 ghost use Rattle.roll.specs.Limits.{roll_bytes};
 ghost use Rattle.roll.specs.Standing.{standing};
 ghost use Rattle.book.specs.After.{model_after};
-ghost use Rattle.book.specs.Model.{model, fresh as fresh_model, empty_roll, standing_of};
+ghost use Rattle.book.specs.Model.{model, fresh, empty_roll, standing_of};
 ghost use Rattle.book.specs.Opening.{passed, checked as checked_as_defined, opening, check_value, Tells};
 
 use crate::checks::RollCheck;
@@ -25,7 +25,8 @@ fn pass(check: RollCheck, roll: &Roll) -> Result<(), OpenFault>
         .map_or(Ok(()), |place| Err(OpenFault::Record(check, place)))
 }
 
-// The checks of the records against each other, in their order.
+// The checks of the records against each other, in their order. Four calls, and no loop: the order is read here as the
+// definition has it, and a list of the checks would be one more thing to keep beside the enum.
 fn checked(roll: &Roll) -> Result<(), OpenFault>
     ensures { result ≡ checked_as_defined (standing roll.now) }
 {
@@ -45,8 +46,8 @@ struct FreshRoll {
 
 // The roll that an image opens a book with, or the first fault: what both the opening and the check go by.
 fn admitted(image: &[u8]) -> Result<FreshRoll, OpenFault>
-    ensures decides { result_map_both (λ fresh. standing fresh.roll) (λ fault. fault) result ≡ opening image.now }
-    ensures exact { IfOk result (λ fresh. roll_bytes (standing fresh.roll) ≡ image.now) }
+    ensures decides { result_map_both (λ admitted. standing admitted.roll) (λ fault. fault) result ≡ opening image.now }
+    ensures exact { IfOk result (λ admitted. roll_bytes (standing admitted.roll) ≡ image.now) }
 {
     let roll = roll::read(image)?;
     checked(&roll)?;
@@ -54,13 +55,13 @@ fn admitted(image: &[u8]) -> Result<FreshRoll, OpenFault>
 }
 
 // A book on a roll, with nothing told yet.
-fn fresh_book<B: Basis>(basis: B, fresh: FreshRoll) -> Book<B>
-    ensures stands { model result ≡ fresh_model basis (standing fresh.roll) }
-    ensures same { result.roll ≡ fresh.roll }
+fn fresh_book<B: Basis>(basis: B, admitted: FreshRoll) -> Book<B>
+    ensures stands { model result ≡ fresh basis (standing admitted.roll) }
+    ensures same { result.roll ≡ admitted.roll }
 {
     Book {
         basis,
-        roll: fresh.roll,
+        roll: admitted.roll,
         period: Period::Closed,
         owed: [0; MOST_PARTICIPANTS],
         outstanding: [Outstanding::NONE; MOST_ACCOUNTS],
@@ -74,14 +75,10 @@ fn fresh_book<B: Basis>(basis: B, fresh: FreshRoll) -> Book<B>
 impl<B: Basis> Book<B> {
     // A book before its first opening: no participants and no accounts.
     pub fn new(basis: B) -> Book<B>
-        ensures is_empty { model result ≡ fresh_model basis empty_roll }
+        ensures is_empty { model result ≡ fresh basis empty_roll }
     {
-        fresh_book(
-            basis,
-            FreshRoll {
-                roll: Roll::empty(),
-            },
-        )
+        let roll = Roll::empty();
+        fresh_book(basis, FreshRoll { roll })
     }
 
     // Opens the book afresh, on the basis and the image that are given.
@@ -114,6 +111,7 @@ impl<B: Basis> Book<B> {
 }
 
 // For the margin system: the refusal that opening from these bytes would give, as 10,000 × its number + its place, or 0.
+#[tactic(auto, using(crate::proofs::Telling::tells))]
 pub fn allocation_book_check(image: &[u8]) -> u32
     ensures tells_what_opening_would_answer { result ≡ check_value (opening image.now) }
     ensures number_and_place_can_be_read_off { Tells result (opening image.now) }

@@ -1,6 +1,5 @@
-use Rattle.std.proofs.Common.{Ok, sym, ap, ◌∙◌}
+use Rattle.std.proofs.Common.{sym}
 use Rattle.roll.specs.Standing.{standing}
-use Rattle.book.specs.Opening.{and_then, opened}
 use Rattle.book.proofs.Admission.{holdable}
 use Rattle.book.proofs.opening.admitted.Goals as goal
 
