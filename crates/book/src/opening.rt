@@ -110,7 +110,8 @@ impl<B: Basis> Book<B> {
     }
 }
 
-// For the margin system: the refusal that opening from these bytes would give, as 10,000 × its number + its place, or 0.
+// For the margin system, which is written in C and takes one number: the refusal that opening from these bytes would give, as
+// 10,000 × its number + its place, or 0.
 #[tactic(auto, using(crate::proofs::Telling::tells))]
 pub fn allocation_book_check(image: &[u8]) -> u32
     ensures tells_what_opening_would_answer { result ≡ check_value (opening image.now) }
