@@ -21,12 +21,12 @@ money_at_stake code (a ∷ xs) [] room = absurd (omega arith)
 money_at_stake code (a ∷ xs) (row ∷ rows) room =
     omega (arith, sum_by-cons (held_by code) a xs, sum_by-cons (stake_by code) record { account = a; outstanding = row.by_declaration } (holdings xs rows), held_at_stake code a row, money_at_stake code xs rows (omega arith))
 
-nobody_above : (ps : List Participant) (xs : List Balance) (rows : List Outstanding) → length xs ≤ length rows → staked_above ps (holdings xs rows) ≡ 0 → participants_above ps xs ≡ 0
+fewer_above : (ps : List Participant) (xs : List Balance) (rows : List Outstanding) → length xs ≤ length rows → participants_above ps xs ≤ staked_above ps (holdings xs rows)
 unfolding staked_above
-nobody_above ps xs rows room none =
-    let fewer : participants_above ps xs ≤ staked_above ps (holdings xs rows) =
-    sum_by-le-sum_by _ _ ps (λ p. let within = money_at_stake p.code xs rows room in grind (arith, nat_tests)) in
-    omega arith
+fewer_above ps xs rows room = sum_by-le-sum_by _ _ ps (λ p. let held = money_at_stake p.code xs rows room in grind (arith, nat_tests))
+
+nobody_above : (ps : List Participant) (xs : List Balance) (rows : List Outstanding) → length xs ≤ length rows → staked_above ps (holdings xs rows) ≡ 0 → participants_above ps xs ≡ 0
+nobody_above ps xs rows room none = omega (arith, fewer_above ps xs rows room)
 
 pub book_holds : {B : Type 0} {g : Ghosts B} (book : Book B g) → Holdable (standing book.roll)
 book_holds book = record {

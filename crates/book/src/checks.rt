@@ -61,7 +61,7 @@ impl RollCheck {
         }
     }
 
-    // The first record that fails it.
+    // The first record that fails it. A byte tells which, since no table has more than 128.
     pub fn first_failing(self, roll: &Roll) -> Option<u8>
         ensures is_the_first_record_that_fails { result ≡ first_place self (standing roll.now) }
     {
