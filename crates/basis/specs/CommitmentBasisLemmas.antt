@@ -8,7 +8,4 @@ use Rattle.basis.specs.Rules.{commitment}
 
 -- two sums within their limits
 pub small : (p : Participant) → participant_outside p ≡ false → commitment p ≤ 8000000000
-small p h =
-    let futures : p.futures ≤ 4000000000 = grind (arith, nat_tests) in
-    let otc : p.otc ≤ 4000000000 = grind (arith, nat_tests) in
-    omega arith
+small p h = grind (arith, nat_tests)

@@ -47,21 +47,13 @@ impl Basis for Commitment {
     ghost one_answer_in_any_order = { Prim.search rules };
 
     fn weight(&self, roll: &Roll, place: usize) -> u64 {
-        let participants = roll.participants();
-        if place < participants.len() {
-            committed(&participants[place])
-        } else {
-            0
-        }
+        roll.participants().get(place).map_or(0, committed)
     }
 
     fn ceiling(&self, roll: &Roll, place: usize) -> u64 {
-        let participants = roll.participants();
-        if place < participants.len() {
-            committed_at_most(roll.defaults(), &participants[place])
-        } else {
-            0
-        }
+        roll.participants()
+            .get(place)
+            .map_or(0, |p| committed_at_most(roll.defaults(), p))
     }
 
     fn carries(&self, _roll: &Roll) -> bool {

@@ -1,5 +1,5 @@
 -- What a roll that is admitted has met: a book can hold it. Assumes nothing.
-use Rattle.std.proofs.Common.{◌≡◌, ℕ, ◌<◌, false, eqb, ltb, Some, None, Ok, Err, Option, Result, refl, arith}
+use Rattle.std.proofs.Common.{◌≡◌, ℕ, ◌<◌, false, eqb, ltb, None, Ok, Option, Result, arith}
 use Rattle.rows.proofs.Counts.{none_twice, none_by_number}
 use Rattle.roll.specs.declared.participant.Participant.{Participant}
 use Rattle.roll.specs.Holdable.{Holdable}
@@ -18,13 +18,11 @@ blank_balance = record { code = 0; owner = 0; funds = 0; overnight = 0 }
 
 -- accepted, one after the other
 both_passed : (a b : Result (Unit {0}) OpenFault) → and_then a b ≡ Ok tt → (a ≡ Ok tt) × (b ≡ Ok tt)
-both_passed (Ok t) b e = (refl, e)
-both_passed (Err f) b e = let z : ◌≡◌ {A = ℕ} 0 1 = cc in absurd (omega arith)
+both_passed a b e = (grind arith, grind arith)
 
 -- a check that is passed fails at no record
 no_place : (check : RollCheck) (found : Option ℕ) → passed_unless check found ≡ Ok tt → found ≡ None
-no_place check None e = refl
-no_place check (Some k) e = let z : ◌≡◌ {A = ℕ} 0 1 = cc in absurd (omega arith)
+no_place check found e = grind arith
 
 nowhere_failed : (check : RollCheck) (s : Standing) → passed check s ≡ Ok tt → (k : ℕ) → k < table_length check s → failed check s k ≡ false
 unfolding passed

@@ -1,6 +1,5 @@
 -- A book with nothing told yet: nobody owes, nothing is outstanding. Assumes nothing.
-use Rattle.std.proofs.Common.{◌≡◌, ℕ, zero, suc, ◌+◌, ◌≤◌, Bool, true, false, cond, eqb, ltb, List, [], ◌∷◌, map, length, replicate, refl, ap, ◌∙◌, arith}
-use Rattle.rows.proofs.Counts.{all_of, sum_by-same}
+use Rattle.std.proofs.Common.{◌≡◌, ℕ, zero, suc, ◌≤◌, ltb, List, [], ◌∷◌, map, length, replicate, sum_by, count_by, refl, ap, ◌∙◌, arith}
 use Rattle.rows.proofs.Rows.{sum_by-map}
 use Rattle.roll.specs.declared.participant.Participant.{Participant}
 use Rattle.roll.specs.Holdable.{participants_above}
@@ -29,23 +28,14 @@ fresh_holdings (a ∷ xs) (suc n) few = ap (λ l. nothing_outstanding a ∷ l) (
 
 -- with nothing outstanding, what is at stake is what the accounts hold
 at_stake : (code : ℕ) (a : Balance) → stake_by code (nothing_outstanding a) ≡ held_by code a
-at_stake code a = either (eqb a.owner code)
-  where
-    either : (b : Bool) → cond b (a.funds + a.overnight + 0) 0 ≡ cond b (a.funds + a.overnight) 0
-    either true = omega arith
-    either false = refl
+at_stake code a = grind arith
 
 all_at_stake : (code : ℕ) (xs : List Balance) → stake_of code (map nothing_outstanding xs) ≡ money_of code xs
-all_at_stake code xs =
-    sum_by-map (stake_by code) nothing_outstanding xs
-    ∙ sum_by-same (λ a. stake_by code (nothing_outstanding a)) (held_by code) xs (all_of (λ a. stake_by code (nothing_outstanding a) ≡ held_by code a) (at_stake code) xs)
+all_at_stake code xs = sum_by-map (stake_by code) nothing_outstanding xs ∙ (λ i. sum_by (λ a. at_stake code a i) xs)
 
 pub fresh_stakes : (ps : List Participant) (xs : List Balance) (n : ℕ) → length xs ≤ n → staked_above ps (holdings xs (replicate n none)) ≡ participants_above ps xs
 unfolding staked_above
-fresh_stakes ps xs n few =
-    ap (staked_above ps) (fresh_holdings xs n few)
-    ∙ sum_by-same (λ p. cond (ltb 9000000000 (stake_of p.code (map nothing_outstanding xs))) 1 0) (λ p. cond (ltb 9000000000 (money_of p.code xs)) 1 0) ps
-    (all_of (λ p. cond {A = ℕ} (ltb 9000000000 (stake_of p.code (map nothing_outstanding xs))) 1 0 ≡ cond (ltb 9000000000 (money_of p.code xs)) 1 0) (λ p. ap (λ m. cond (ltb 9000000000 m) 1 0) (all_at_stake p.code xs)) ps)
+fresh_stakes ps xs n few = ap (staked_above ps) (fresh_holdings xs n few) ∙ (λ i. count_by (λ p. ltb 9000000000 (all_at_stake p.code xs i)) ps)
 
 -- the model of a book with nothing told yet
 abbrev pub untold : {B : Type 0} → B → List Member → List Holding → ℕ → Model B
@@ -64,7 +54,4 @@ untold basis ms hs defaults = record {
 pub stands_fresh : {B : Type 0} (basis : B) (s : Standing) → length s.participants ≤ 64 → length s.accounts ≤ 128 → s.defaults ≡ 0
     → untold basis (members s.participants (replicate 64 0)) (holdings s.accounts (replicate 128 none)) s.defaults ≡ fresh basis s
 unfolding fresh
-stands_fresh basis s few small undefaulted =
-    ap (λ ms. untold basis ms (holdings s.accounts (replicate 128 none)) s.defaults) (fresh_members s.participants 64 few)
-    ∙ ap (λ hs. untold basis (map owing_nothing s.participants) hs s.defaults) (fresh_holdings s.accounts 128 small)
-    ∙ ap (untold basis (map owing_nothing s.participants) (map nothing_outstanding s.accounts)) undefaulted
+stands_fresh basis s few small undefaulted = λ i. untold basis (fresh_members s.participants 64 few i) (fresh_holdings s.accounts 128 small i) (undefaulted i)

@@ -3,5 +3,4 @@ pub mod Firsts
 pub mod Fresh
 pub mod Keeping
 pub mod Modelling
-pub mod Records
 pub mod Telling

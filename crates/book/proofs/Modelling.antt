@@ -1,5 +1,5 @@
 -- The roll of a book, from its model. Assumes nothing.
-use Rattle.std.proofs.Common.{◌≡◌, ℕ, ◌≤◌, List, [], ◌∷◌, map, length, refl, ap, ◌∙◌, arith}
+use Rattle.std.proofs.Common.{◌≡◌, ℕ, ◌≤◌, List, [], ◌∷◌, map, length, refl, ap, arith}
 use Rattle.roll.specs.declared.participant.Participant.{Participant}
 use Rattle.roll.specs.Standing.{Balance, Standing, standing}
 use Rattle.book.specs.declared.parts.Outstanding.{Outstanding}
@@ -27,5 +27,7 @@ pub modelled : {B : Type 0} {g : Ghosts B} (book : Book B g) → standing_of (mo
 unfolding model
 modelled book =
     let s = standing book.roll in
-    ap (λ l. rolled l (map (λ (h : Holding). h.account) (holdings s.accounts book.outstanding)) s.defaults) (their_participants s.participants book.owed (omega (arith, book.few_participants, book.full_owed)))
-    ∙ ap (λ l. rolled s.participants l s.defaults) (their_accounts s.accounts book.outstanding (omega (arith, book.few_accounts, book.full_outstanding)))
+    λ i. rolled
+    (their_participants s.participants book.owed (omega (arith, book.few_participants, book.full_owed)) i)
+    (their_accounts s.accounts book.outstanding (omega (arith, book.few_accounts, book.full_outstanding)) i)
+    s.defaults

@@ -1,6 +1,6 @@
 -- The check's answer, from which number and place can be read off. Assumes nothing.
-use Rattle.std.proofs.Common.{◌≡◌, ℕ, zero, suc, ◌+◌, ◌*◌, ◌/◌, ◌%◌, ◌<◌, ◌≤◌, Bool, true, false, cond, List, Some, None, Ok, Err, Option, Result, refl, ap, ◌∙◌, subst, mul_comm, arith}
-use lib.Arith.{digits_div, digits_mod}
+use Rattle.std.proofs.Common.{◌≡◌, ℕ, zero, suc, ◌+◌, ◌<◌, ◌≤◌, Bool, List, Some, None, Ok, Err, Option, Result, IfSome, IfErr, sym, refl, subst, arith}
+use Rattle.std.proofs.lemmas.Option.{IfSome_then}
 use Rattle.roll.specs.declared.fault.RollFault.{RollFault}
 use Rattle.roll.specs.Faults as roll
 use Rattle.roll.specs.Limits.{roll_of}
@@ -9,66 +9,51 @@ use Rattle.roll.proofs.Places.{Few, roll_few, roll_place}
 use Rattle.book.specs.declared.checks.RollCheck.{RollCheck}
 use Rattle.book.specs.declared.checks.RollCheck.TheVariants.{ParticipantTwice, AccountTwice, OwnerUnknown, AboveLimit}
 use Rattle.book.specs.declared.fault.OpenFault.{OpenFault}
-use Rattle.book.specs.declared.fault.OpenFault.TheVariants.{Roll, Record}
 use Rattle.book.specs.Checks.{table_length, failed, first_from, first_place}
-use Rattle.book.specs.Faults.{number_of, place_of}
-use Rattle.book.specs.Opening.{passed_unless, passed, and_then, checked, opened, opening, Tells}
+use Rattle.book.specs.Faults.{place_of}
+use Rattle.book.specs.Opening.{passed_unless, passed, and_then, checked, opened, opening, check_value, Tells}
 
--- both parts of an answer whose place is below 10,000
-read_off : (number place : ℕ) → place < 10000 → ((10000 * number + place) / 10000 ≡ number) × ((10000 * number + place) % 10000 ≡ place)
-read_off number place small =
-    let turned : 10000 * number + place ≡ number * 10000 + place = ap (λ n. n + place) (mul_comm 10000 number) in
-    (ap (λ n. n / 10000) turned ∙ digits_div number small, ap (λ n. n % 10000) turned ∙ digits_mod number small)
+-- the place of the fault, if there is one, is below 10,000
+abbrev PlaceFits : {Y : Type 0} → Result Y OpenFault → Type 0
+PlaceFits r = IfErr r (λ fault. place_of fault < 10000)
 
 -- the first place at which a test holds is one of those looked at
-found_within : (k n : ℕ) (b : Bool) (later : Option ℕ) (found : ℕ) → cond b (Some k) later ≡ Some found → (later ≡ Some found → found < k + 1 + n) → found < k + suc n
-found_within k n true later found e past = let same : k ≡ found = cc in omega arith
-found_within k n false later found e past = omega (arith, past e)
-
-first_within : (test : ℕ → Bool) (n k found : ℕ) → first_from test k n ≡ Some found → found < k + n
+first_within : (test : ℕ → Bool) (n k : ℕ) → IfSome (first_from test k n) (λ found. found < k + n)
 unfolding first_from
-first_within test zero k found e = let z : ◌≡◌ {A = ℕ} 0 1 = cc in absurd (omega arith)
-first_within test (suc n) k found e = found_within k n (test k) (first_from test (k + 1) n) found e (first_within test n (k + 1) found)
+first_within test zero k = tt
+first_within test (suc n) k = let later = first_within test n (k + 1) in grind arith
 
 -- a record that fails a check is one of its table
 module _ (s : Standing) (few : Few s) where
   table_small : (check : RollCheck) → table_length check s ≤ 128
-  table_small ParticipantTwice = omega arith
-  table_small AccountTwice = omega arith
-  table_small OwnerUnknown = omega arith
-  table_small AboveLimit = omega arith
+  table_small check = grind (arith, few)
 
-  refused_within : (check : RollCheck) (found : Option ℕ) → first_place check s ≡ found → (fault : OpenFault) → Err fault ≡ passed_unless check found → place_of fault < 10000
-  refused_within check None is fault e = let z : ◌≡◌ {A = ℕ} 0 1 = cc in absurd (omega arith)
-  refused_within check (Some place) is fault e =
-      let same : fault ≡ Record check place = cc in
-      omega (arith, ap place_of same, first_within (failed check s) (table_length check s) 0 place is, table_small check)
+  refused_fits : (check : RollCheck) (found : Option ℕ) → IfSome found (λ place. place < 10000) → PlaceFits (passed_unless check found)
+  refused_fits check None small = tt
+  refused_fits check (Some place) small = small
 
-  passed_within : (check : RollCheck) (fault : OpenFault) → Err fault ≡ passed check s → place_of fault < 10000
+  passed_fits : (check : RollCheck) → PlaceFits (passed check s)
   unfolding passed
-  passed_within check fault e = refused_within check (first_place check s) refl fault e
+  passed_fits check = refused_fits check (first_place check s) (IfSome_then (first_place check s) (first_within (failed check s) (table_length check s) 0) (λ found h. omega (arith, table_small check)))
 
-  either_refused : {Y : Type 0} (a : Result (Unit {0}) OpenFault) (b : Result Y OpenFault) → ((fault : OpenFault) → Err fault ≡ a → place_of fault < 10000) → ((fault : OpenFault) → Err fault ≡ b → place_of fault < 10000) → (fault : OpenFault) → Err fault ≡ and_then a b → place_of fault < 10000
-  either_refused (Ok t) b one two fault e = two fault e
-  either_refused (Err f) b one two fault e = let same : fault ≡ f = cc in one fault (ap Err same)
+  both_fit : {Y : Type 0} (a : Result (Unit {0}) OpenFault) (b : Result Y OpenFault) → PlaceFits a → PlaceFits b → PlaceFits (and_then a b)
+  both_fit (Ok t) b one two = two
+  both_fit (Err f) b one two = one
 
-  checked_within : (fault : OpenFault) → Err fault ≡ checked s → place_of fault < 10000
-  checked_within =
-      either_refused (passed ParticipantTwice s) _ (passed_within ParticipantTwice)
-      (either_refused (passed AccountTwice s) _ (passed_within AccountTwice)
-      (either_refused (passed OwnerUnknown s) _ (passed_within OwnerUnknown) (passed_within AboveLimit)))
+  checked_fits : PlaceFits (checked s)
+  checked_fits =
+      both_fit (passed ParticipantTwice s) _ (passed_fits ParticipantTwice)
+      (both_fit (passed AccountTwice s) _ (passed_fits AccountTwice)
+      (both_fit (passed OwnerUnknown s) _ (passed_fits OwnerUnknown) (passed_fits AboveLimit)))
 
-accepted : (s : Standing) (fault : OpenFault) → Err fault ≡ Ok s → place_of fault < 10000
-accepted s fault e = let z : ◌≡◌ {A = ℕ} 0 1 = cc in absurd (omega arith)
+opened_fits : (read : Result Standing RollFault) → ((s : Standing) → Ok s ≡ read → Few s) → ((fault : RollFault) → Err fault ≡ read → roll.place_of fault < 4423) → PlaceFits (opened read)
+opened_fits (Ok s) few low = both_fit s (few s refl) (checked s) (Ok s) (checked_fits s (few s refl)) tt
+opened_fits (Err fault) few low = omega (arith, low fault refl)
 
-opened_within : (read : Result Standing RollFault) → ((s : Standing) → Ok s ≡ read → Few s) → ((fault : RollFault) → Err fault ≡ read → roll.place_of fault < 4423) → (fault : OpenFault) → Err fault ≡ opened read → place_of fault < 10000
-opened_within (Ok s) few low fault e = either_refused s (few s refl) (checked s) (Ok s) (checked_within s (few s refl)) (accepted s) fault e
-opened_within (Err own) few low fault e =
-    let same : fault ≡ Roll own = cc in
-    omega (arith, ap place_of same, low own refl)
+told : (r : Result Standing OpenFault) → PlaceFits r → Tells (check_value r) r
+told (Ok s) fits = refl
+told (Err fault) fits = (omega arith, omega arith)
 
--- number and place of whatever an opening tells
-pub tells : (bytes : List ℕ) (fault : OpenFault) → Err fault ≡ opening bytes → Tells (10000 * number_of fault + place_of fault) (opening bytes)
-tells bytes fault e =
-    subst (Tells (10000 * number_of fault + place_of fault)) e
-    (read_off (number_of fault) (place_of fault) (opened_within (roll_of bytes) (roll_few bytes) (roll_place bytes) fault e))
+-- the check's answer tells what the opening would
+pub tells : (bytes : List ℕ) (value : ℕ) → value ≡ check_value (opening bytes) → Tells value (opening bytes)
+tells bytes value is = subst (λ v. Tells v (opening bytes)) (sym is) (told (opening bytes) (opened_fits (roll_of bytes) (roll_few bytes) (roll_place bytes)))

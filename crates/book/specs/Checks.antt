@@ -1,5 +1,6 @@
 -- The checks of a roll's records against each other. Assumes nothing.
-use Rattle.std.specs.Prelude.{ℕ, zero, suc, ◌+◌, Bool, cond, List, map, length, take, Some, None, Option, ◌==◌, nat_lt, slice_index}
+use Rattle.std.specs.Prelude.{ℕ, zero, suc, ◌+◌, Bool, cond, List, map, length, take, Some, None, Option, count_by, position, ◌==◌, nat_eq, nat_lt, slice_index}
+use Rattle.std.specs.List.{enumerate_from}
 use Rattle.roll.specs.Standing.{Standing, participants_with, accounts_with, money_of}
 use Rattle.book.specs.declared.checks.RollCheck.{RollCheck}
 use Rattle.book.specs.declared.checks.RollCheck.TheVariants.{ParticipantTwice, AccountTwice, OwnerUnknown, AboveLimit}
@@ -13,6 +14,10 @@ account_codes s = map (λ a. a.code) s.accounts
 
 abbrev pub owner_codes : Standing → List ℕ
 owner_codes s = map (λ a. a.owner) s.accounts
+
+-- The first record of a row whose code an earlier one has.
+abbrev pub first_used : {X : Type 0} → (X → ℕ) → List X → Option ℕ
+first_used code xs = position (λ p. nat_lt 0 (count_by (λ x. nat_eq (code x) (code p.1)) (take p.0 xs))) (enumerate_from 0 xs)
 
 -- An earlier participant has the code of the one at this place.
 abbrev pub participant_twice : Standing → ℕ → Bool

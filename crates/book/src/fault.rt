@@ -40,10 +40,7 @@ impl OpenFault {
     {
         match self {
             OpenFault::Roll(fault) => fault.number(),
-            OpenFault::Record(RollCheck::ParticipantTwice, _) => 15,
-            OpenFault::Record(RollCheck::AccountTwice, _) => 15,
-            OpenFault::Record(RollCheck::OwnerUnknown, _) => 16,
-            OpenFault::Record(RollCheck::AboveLimit, _) => 17,
+            OpenFault::Record(check, _) => check.number(),
         }
     }
 

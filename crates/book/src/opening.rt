@@ -16,16 +16,17 @@ use basis::Basis;
 use roll::Roll;
 
 // One check, over its whole table.
+#[tactic(auto, unfolding(crate::specs::Opening::passed))]
 fn pass(check: RollCheck, roll: &Roll) -> Result<(), OpenFault>
     ensures { result ≡ passed check (standing roll.now) }
 {
-    match check.first_failing(roll) {
-        Some(place) => Err(OpenFault::Record(check, place)),
-        None => Ok(()),
-    }
+    check
+        .first_failing(roll)
+        .map_or(Ok(()), |place| Err(OpenFault::Record(check, place)))
 }
 
-// The checks of the records against each other, in their order.
+// The checks of the records against each other, in their order. Four calls, and no loop: the order is read here as the
+// definition has it, and a list of the checks would be one more thing to keep beside the enum.
 fn checked(roll: &Roll) -> Result<(), OpenFault>
     ensures { result ≡ checked_as_defined (standing roll.now) }
 {
@@ -35,28 +36,32 @@ fn checked(roll: &Roll) -> Result<(), OpenFault>
     pass(RollCheck::AboveLimit, roll)
 }
 
+// A roll that a book is opened with: one that a book can hold, with nobody counted as defaulted.
+#[derive(Clone, Copy)]
+struct FreshRoll {
+    roll: Roll,
+    ghost holdable: { Holdable (standing roll) },
+    ghost undefaulted: { (standing roll).defaults ≡ 0 },
+}
+
 // The roll that an image opens a book with, or the first fault: what both the opening and the check go by.
-fn admitted(image: &[u8]) -> Result<Roll, OpenFault>
-    ensures decides { result_map_both standing (λ fault. fault) result ≡ opening image.now }
-    ensures exact { IfOk result (λ roll. roll_bytes (standing roll) ≡ image.now) }
-    ensures holdable { IfOk result (λ roll. Holdable (standing roll)) }
-    ensures undefaulted { IfOk result (λ roll. (standing roll).defaults ≡ 0) }
+fn admitted(image: &[u8]) -> Result<FreshRoll, OpenFault>
+    ensures decides { result_map_both (λ admitted. standing admitted.roll) (λ fault. fault) result ≡ opening image.now }
+    ensures exact { IfOk result (λ admitted. roll_bytes (standing admitted.roll) ≡ image.now) }
 {
     let roll = roll::read(image)?;
     checked(&roll)?;
-    Ok(roll)
+    Ok(FreshRoll { roll })
 }
 
 // A book on a roll, with nothing told yet.
-fn fresh_book<B: Basis>(basis: B, roll: Roll) -> Book<B>
-    requires holdable { Holdable (standing roll) }
-    requires undefaulted { (standing roll).defaults ≡ 0 }
-    ensures stands { model result ≡ fresh basis (standing roll) }
-    ensures same { result.roll ≡ roll }
+fn fresh_book<B: Basis>(basis: B, admitted: FreshRoll) -> Book<B>
+    ensures stands { model result ≡ fresh basis (standing admitted.roll) }
+    ensures same { result.roll ≡ admitted.roll }
 {
     Book {
         basis,
-        roll,
+        roll: admitted.roll,
         period: Period::Closed,
         owed: [0; MOST_PARTICIPANTS],
         outstanding: [Outstanding::NONE; MOST_ACCOUNTS],
@@ -72,18 +77,19 @@ impl<B: Basis> Book<B> {
     pub fn new(basis: B) -> Book<B>
         ensures is_empty { model result ≡ fresh basis empty_roll }
     {
-        fresh_book(basis, Roll::empty())
+        let roll = Roll::empty();
+        fresh_book(basis, FreshRoll { roll })
     }
 
     // Opens the book afresh, on the basis and the image that are given.
+    #[tactic(auto, using(crate::proofs::Modelling::modelled))]
     pub fn open(&mut self, basis: B, image: &[u8]) -> Result<(), OpenFault>
         ensures answers_as_defined { result ≡ result_map_both (λ _. tt) (λ fault. fault) (opening image.now) }
         ensures stands_as_defined { model self.new ≡ model_after (opening image.now) basis (model self.old) }
         ensures refused_leaves_every_field { OnErr result (self.new ≡ self.old) }
         ensures records_have_the_bytes_read { OnOk result (roll_bytes (standing_of (model self.new)) ≡ image.now) }
     {
-        let roll = admitted(image)?;
-        *self = fresh_book(basis, roll);
+        *self = fresh_book(basis, admitted(image)?);
         Ok(())
     }
 
@@ -96,6 +102,7 @@ impl<B: Basis> Book<B> {
     }
 
     // The basis on which it was opened.
+    #[tactic(auto, unfolding(crate::specs::Model::model))]
     pub fn basis(&self) -> B
         ensures is_the_books_basis { result ≡ (model self.now).basis }
     {
@@ -103,7 +110,9 @@ impl<B: Basis> Book<B> {
     }
 }
 
-// For the margin system: the refusal that opening from these bytes would give, as 10,000 × its number + its place, or 0.
+// For the margin system, which is written in C and takes one number: the refusal that opening from these bytes would give, as
+// 10,000 × its number + its place, or 0.
+#[tactic(auto, using(crate::proofs::Telling::tells))]
 pub fn allocation_book_check(image: &[u8]) -> u32
     ensures tells_what_opening_would_answer { result ≡ check_value (opening image.now) }
     ensures number_and_place_can_be_read_off { Tells result (opening image.now) }

@@ -20,9 +20,11 @@ pub struct Book<B: Basis> {
     pub(crate) basis: B,
     pub(crate) roll: Roll,
     pub(crate) period: Period,
-    // what each participant owes this period, beside the roll's participants
+    // What is owed and outstanding stands beside the roll's tables, place by place, and not in them: the roll is a layer that
+    // bases read and that must not show debts, and without a heap each table has its full length.
+    // what each participant owes this period
     pub(crate) owed: [u64; MOST_PARTICIPANTS],
-    // what each account has lost and not got back, beside the roll's accounts
+    // what each account has lost and not got back
     pub(crate) outstanding: [Outstanding; MOST_ACCOUNTS],
     pub(crate) declarations: usize,
     pub(crate) termination: Termination,

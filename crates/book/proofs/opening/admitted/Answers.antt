@@ -1,17 +1,7 @@
-use Rattle.std.proofs.Common.{Ok, sym, ap, ◌∙◌}
+use Rattle.std.proofs.Common.{sym}
 use Rattle.roll.specs.Standing.{standing}
-use Rattle.book.specs.Opening.{and_then, opened}
 use Rattle.book.proofs.Admission.{holdable}
 use Rattle.book.proofs.opening.admitted.Goals as goal
 
-pub returns : goal.returns
-returns c =
-    let s = standing c.in_ok-roll.roll in
-    let read = c.in_ok-roll.ensures in
-    let checked = c.in_ok-checked.ensures in
-    record {
-      decides = ap (λ r. and_then r (Ok s)) checked ∙ ap opened read.reads_as_defined;
-      exact = read.records_have_the_bytes_read;
-      holdable = holdable s read.fields_are_within_limits (sym checked);
-      undefaulted = read.fields_are_within_limits.no_defaults;
-    }
+pub invariant_of-result-clause-holdable : goal.invariant_of-result-clause-holdable
+invariant_of-result-clause-holdable c = holdable (standing c.in_ok-roll.roll) c.in_ok-roll.ensures.fields_are_within_limits (sym c.in_ok-checked.ensures)

@@ -1,35 +1,14 @@
-use Rattle.std.proofs.Common.{refl, ◌∙◌, arith}
+use Rattle.std.proofs.Common.{◌∙◌}
 use Rattle.roll.specs.Standing.{standing}
 use Rattle.book.specs.Model.{model}
 use Rattle.book.proofs.Fresh.{fresh_stakes, stands_fresh}
 use Rattle.book.proofs.opening.fresh_book.Goals as goal
 
--- what a book always keeps
-pub invariant_of-result : goal.invariant_of-result
-invariant_of-result g c =
-    let s = standing c.args.roll in
-    let h = c.requires.holdable in
-    record {
-      full_owed = refl;
-      full_outstanding = refl;
-      few_participants = h.few_participants;
-      few_accounts = h.few_accounts;
-      participants_within = h.participants_within;
-      accounts_within = h.accounts_within;
-      participants_apart = h.participants_apart;
-      accounts_apart = h.accounts_apart;
-      owners_known = h.owners_known;
-      nobody_above = fresh_stakes s.participants s.accounts 128 h.few_accounts ∙ h.nobody_above;
-      defaults_marked = h.defaults_marked;
-      owed_within = refl;
-      few_declarations = omega arith;
-      entries_written = omega arith;
-      lines_within = omega arith;
-    }
+pub invariant_of-result-clause-nobody_above : goal.invariant_of-result-clause-nobody_above
+invariant_of-result-clause-nobody_above g c =
+    let s = standing c.args.admitted.roll in
+    fresh_stakes s.participants s.accounts 128 c.args.admitted.holdable.few_accounts ∙ c.args.admitted.holdable.nobody_above
 
-pub returns : goal.returns
+pub returns-clause-stands : goal.returns-clause-stands
 unfolding model
-returns g c = record {
-  stands = stands_fresh c.args.basis (standing c.args.roll) c.requires.holdable.few_participants c.requires.holdable.few_accounts c.requires.undefaulted;
-  same = refl;
-}
+returns-clause-stands g c = stands_fresh c.args.basis (standing c.args.admitted.roll) c.args.admitted.holdable.few_participants c.args.admitted.holdable.few_accounts c.args.admitted.undefaulted
