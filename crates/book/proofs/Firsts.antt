@@ -5,7 +5,8 @@ use Rattle.std.proofs.lemmas.Bool.{cases_lt}
 use Rattle.std.proofs.lemmas.Iterator.Adapters.{position_from-zero}
 use Rattle.std.proofs.lemmas.List.{get_or-map, length-map, take-map}
 use Rattle.std.proofs.lemmas.List.FromFn.{length-enumerate_from, get_or-enumerate_from}
-use Rattle.rows.proofs.Rows.{sum_by-map, map-map}
+use mathlib.Core.List.{map-map}
+use Rattle.rows.proofs.Rows.{sum_by-map}
 use Rattle.book.specs.Checks.{first_from, first_used}
 
 -- what a search of a row finds, as a search of its places does

@@ -1,11 +1,9 @@
 -- Sums and counts over a row, one element more at a time, and rows that are filled place by place. Assumes nothing.
-use Rattle.std.proofs.Common.{◌≡◌, ℕ, ◌+◌, ◌-◌, ◌<◌, ◌≤◌, min, Bool, true, false, cond, List, [], ◌∷◌, ◌++◌, map, length, get_or, take, drop, set, fold, sum_by, count_by, sym, refl, ap, ◌∙◌, ⊎_elim, arith}
-use mir.Val.{bool_byte}
+use Rattle.std.proofs.Common.{◌≡◌, ℕ, ◌+◌, ◌<◌, ◌≤◌, min, List, [], ◌∷◌, ◌++◌, map, length, get_or, take, drop, set, fold, sum_by, sym, refl, ap, ◌∙◌, ⊎_elim, arith}
 use Rattle.std.specs.List.{range_with_len}
 use Rattle.std.proofs.lemmas.List.FromFn.{length-range_with_len, get_or-range_with_len}
 use Rattle.std.proofs.lemmas.List.{map_more, take_all, take_at, drop_more, drop_all, length-map, length-take-le, set_at, append_assoc}
 use Rattle.std.proofs.lemmas.Bool.{cases_lt}
-use Rattle.std.proofs.lemmas.List.Sums.{sum_by_more, sum_by-take-le}
 
 -- a sum over what a function gives of each element
 pub sum_by-map : {X Y : Type 0} (f : Y → ℕ) (g : X → Y) (xs : List X) → sum_by f (map g xs) ≡ sum_by (λ x. f (g x)) xs
@@ -14,50 +12,6 @@ sum_by-map {X} {Y} f g xs = along 0 xs
     along : (a : ℕ) (ys : List X) → fold (λ s y. s + f y) a (map g ys) ≡ fold (λ s x. s + f (g x)) a ys
     along a [] = refl
     along a (y ∷ ys) = along (a + f (g y)) ys
-
--- what one function gives of what another gives
-pub map-map : {X Y Z : Type 0} (f : Y → Z) (g : X → Y) (xs : List X) → map f (map g xs) ≡ map (λ x. f (g x)) xs
-map-map f g [] = refl
-map-map f g (x ∷ xs) = ap (λ l. f (g x) ∷ l) (map-map f g xs)
-
--- how a loop stands that adds up: n is the sum over the first i elements
-abbrev pub Added : {X : Type 0} → (X → ℕ) → List X → ℕ → ℕ → Type 0
-Added f xs i n = n ≡ sum_by f (take i xs)
-
-module _ {X : Type 0} (f : X → ℕ) (xs : List X) where
-  pub added_more : (i n m : ℕ) (x : X) → i < length xs → x ≡ get_or xs i x → Added f xs i n → m ≡ f x → Added f xs (i + 1) (n + m)
-  added_more i n m x within read so is =
-      let at : f x ≡ f (get_or xs i x) = ap f read in
-      omega (arith, so, is, at, sum_by_more f xs i x within)
-
-  -- so far it is at most the whole sum
-  pub added_within : (i n m : ℕ) (x : X) → i < length xs → x ≡ get_or xs i x → Added f xs i n → m ≡ f x → n + m ≤ sum_by f xs
-  added_within i n m x within read so is = omega (arith, added_more i n m x within read so is, sum_by-take-le f xs (i + 1))
-
-  pub added_all : (i n : ℕ) → length xs ≤ i → Added f xs i n → n ≡ sum_by f xs
-  added_all i n past so = so ∙ ap (sum_by f) (take_all i xs past)
-
--- how a loop stands that counts the elements which pass a test: n of the first i do
-abbrev pub Counted : {X : Type 0} → (X → Bool) → List X → ℕ → ℕ → Type 0
-Counted p xs i n = (n ≤ i) × Added (λ x. cond (p x) 1 0) xs i n
-
-bit_is : (b : Bool) → bool_byte b ≡ cond b 1 0
-bit_is true = refl
-bit_is false = refl
-
-bit_small : (b : Bool) → cond b 1 0 ≤ 1
-bit_small true = omega arith
-bit_small false = omega arith
-
-module _ {X : Type 0} (p : X → Bool) (xs : List X) where
-  pub counted_more : (i n m : ℕ) (x : X) (b : Bool) → i < length xs → x ≡ get_or xs i x → Counted p xs i n → m ≡ bool_byte b → b ≡ p x → Counted p xs (i + 1) (n + m)
-  counted_more i n m x b within read so bit test =
-      let is : m ≡ cond (p x) 1 0 = bit ∙ bit_is b ∙ ap (λ t. cond t 1 0) test in
-      let few = bit_small (p x) in
-      (omega (arith, is, so.0), added_more (λ y. cond (p y) 1 0) xs i n m x within read so.1 is)
-
-  pub counted_all : (i n : ℕ) → length xs ≤ i → Counted p xs i n → n ≡ count_by p xs
-  counted_all i n past so = added_all (λ x. cond (p x) 1 0) xs i n past so.1
 
 -- how a loop stands that writes f x for each element x: the first i places are written, the others are as they were
 abbrev pub filled : {X Y : Type 0} → (X → Y) → List X → List Y → ℕ → List Y
@@ -111,11 +65,3 @@ all_written f xs old room = ap (λ l. map f l ++ drop (length xs) old) (take_all
 -- what stands in a table up to its count, once so many places are written
 pub written_part : {Y : Type 0} (new rest : List Y) (n : ℕ) (table : List Y) → length new ≡ n → table ≡ new ++ rest → take n table ≡ new
 written_part new rest n table long is = ap (take n) is ∙ take_at new rest n long
-
--- `&table[0..k]`, with k as many as are counted, or as there are: the table up to its count
-pub up_to_count : {Y : Type 0} (n m k : ℕ) (table : List Y) → length table ≡ m → k ≡ min n m → take (k - 0) table ≡ take n table
-up_to_count n m k table long is =
-    ⊎_elim
-    (λ (lt : n < m). ap (λ j. take j table) (let same : k - 0 ≡ n = omega arith in same))
-    (λ (ge : m ≤ n). take_all (k - 0) table (omega arith) ∙ sym (take_all n table (omega arith)))
-    (cases_lt n m)

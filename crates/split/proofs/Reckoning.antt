@@ -11,7 +11,8 @@ use Rattle.split.specs.Reasons.{reason, reasons, reckon}
 use Rattle.split.specs.Shares.{divide, divisions, all_weights, odd_dollars, share, shares}
 use Rattle.split.proofs.Blanks.{blank_division}
 use Rattle.split.proofs.Quotients.{wholes, wholes_within}
-use Rattle.rows.proofs.Rows.{map-map, all_written}
+use mathlib.Core.List.{map-map}
+use Rattle.rows.proofs.Rows.{all_written}
 
 -- what is divided of each bearer is the row of divisions
 pub row_is : (sum total : ℕ) (xs : List Stake) (row : List Division) → total ≡ all_weights xs → row ≡ map (divide sum total) xs → row ≡ divisions sum xs

@@ -3,7 +3,7 @@ use Rattle.std.proofs.lemmas.List.{take_all}
 use Rattle.split.specs.declared.division.Division.{Division}
 use Rattle.split.specs.Shares.{divide}
 use Rattle.split.proofs.Accepting.{light_bearer}
-use Rattle.rows.proofs.Rows.{map-map}
+use mathlib.Core.List.{map-map}
 use Rattle.split.proofs.division.divide_all.Goals as goal
 
 pub from_row-requires : goal.from_row-requires
