@@ -11,8 +11,9 @@ ghost use Rattle.book.specs.Opening.{passed, checked as checked_as_defined, open
 use crate::checks::RollCheck;
 use crate::fault::OpenFault;
 use crate::parts::{Outstanding, Period, Termination};
-use crate::state::{Book, MOST_ACCOUNTS, MOST_PARTICIPANTS};
+use crate::state::Book;
 use basis::Basis;
+use image::{MOST_ACCOUNTS, MOST_PARTICIPANTS};
 use roll::Roll;
 
 // One check, over its whole table.

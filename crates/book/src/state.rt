@@ -6,12 +6,8 @@ ghost use Rattle.book.specs.Holdings.{holdings, staked_above, owing_above};
 
 use crate::parts::{Outstanding, Period, Termination};
 use basis::Basis;
+use image::{MOST_ACCOUNTS, MOST_PARTICIPANTS};
 use roll::Roll;
-
-// The most participants and accounts of a book.
-pub(crate) const MOST_PARTICIPANTS: usize = 64;
-
-pub(crate) const MOST_ACCOUNTS: usize = 128;
 
 // What a book always keeps stands in its ghost fields: it holds of every book, before its first opening too.
 #[derive(Drop)]
