@@ -1,5 +1,6 @@
 pub mod Alike
 pub mod Faults
+pub mod Fields
 pub mod Holdable
 pub mod Limits
 pub mod Marks

@@ -6,6 +6,7 @@ use Rattle.image.specs.declared.record.ParticipantRecord.{ParticipantRecord}
 use Rattle.image.specs.Faults as image
 use Rattle.image.specs.Layout.{Records, bytes_of, participant_place, account_place}
 use Rattle.roll.specs.declared.fault.RollFault.{RollFault}
+use Rattle.roll.specs.declared.field.FieldFault.{FieldFault}
 use Rattle.roll.specs.declared.fault.RollFault.TheVariants.{Image, Field}
 use Rattle.roll.specs.declared.participant.Participant.{Participant}
 use Rattle.roll.specs.Standing.{Balance, Standing}
@@ -114,6 +115,6 @@ told (Some place) = Err (Field place)
 
 -- What a record gives, as it is viewed: what it stands for where no field is outside its limits, else the byte where the first
 -- begins that is.
-abbrev pub Gives : {R X V : Type 0} → (R → Option ℕ) → (X → V) → (R → V) → R → Result X ℕ → Type 0
+abbrev pub Gives : {R X V : Type 0} → (R → Option ℕ) → (X → V) → (R → V) → R → Result X FieldFault → Type 0
 Gives fault view gives r (Ok x) = (fault r ≡ None) × (view x ≡ gives r)
-Gives fault view gives r (Err offset) = fault r ≡ Some offset
+Gives fault view gives r (Err outside) = fault r ≡ Some outside.offset

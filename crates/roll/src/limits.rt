@@ -1,7 +1,9 @@
 // The limits of an image's fields.
 ghost use Rattle.std.specs.Prelude.{◌≡◌, ℕ, Option as Maybe};
+ghost use Rattle.roll.specs.Fields.{unless_outside};
 ghost use Rattle.roll.specs.Limits.{no_code, participant_fault, account_fault};
 
+use crate::field::{FieldFault, unless};
 use image::{AccountRecord, ParticipantRecord};
 
 // The highest code.
@@ -25,11 +27,12 @@ pub(crate) trait Limited: Copy {
 
     const WIDTH: usize;
 
-    // Its first field outside its limits, by the byte of the record where it begins: that is how the rules tell a field.
+    // Its first field outside its limits, by the byte of the record where it begins.
     ghost faulty: { Self → Maybe ℕ };
 
-    fn fault(&self) -> Option<u8>
-        ensures is_its_first_fault { result ≡ faulty self.now };
+    // Tests its fields, in their order.
+    fn tested(&self) -> Result<(), FieldFault>
+        ensures tells_its_first_fault { result ≡ unless_outside (faulty self.now) };
 }
 
 impl Limited for ParticipantRecord {
@@ -39,22 +42,13 @@ impl Limited for ParticipantRecord {
 
     ghost faulty = { participant_fault };
 
-    fn fault(&self) -> Option<u8> {
-        if is_no_code(self.code) {
-            Some(0)
-        } else if self.futures > SUM_LIMIT {
-            Some(4)
-        } else if self.otc > SUM_LIMIT {
-            Some(8)
-        } else if self.margin > SUM_LIMIT {
-            Some(12)
-        } else if self.adjusted > SUM_LIMIT {
-            Some(16)
-        } else if self.scope > 1 {
-            Some(20)
-        } else {
-            None
-        }
+    fn tested(&self) -> Result<(), FieldFault> {
+        unless(is_no_code(self.code), 0)?;
+        unless(self.futures > SUM_LIMIT, 4)?;
+        unless(self.otc > SUM_LIMIT, 8)?;
+        unless(self.margin > SUM_LIMIT, 12)?;
+        unless(self.adjusted > SUM_LIMIT, 16)?;
+        unless(self.scope > 1, 20)
     }
 }
 
@@ -65,17 +59,10 @@ impl Limited for AccountRecord {
 
     ghost faulty = { account_fault };
 
-    fn fault(&self) -> Option<u8> {
-        if is_no_code(self.code) {
-            Some(0)
-        } else if is_no_code(self.owner) {
-            Some(4)
-        } else if self.funds > MONEY_LIMIT {
-            Some(8)
-        } else if self.overnight > MONEY_LIMIT {
-            Some(16)
-        } else {
-            None
-        }
+    fn tested(&self) -> Result<(), FieldFault> {
+        unless(is_no_code(self.code), 0)?;
+        unless(is_no_code(self.owner), 4)?;
+        unless(self.funds > MONEY_LIMIT, 8)?;
+        unless(self.overnight > MONEY_LIMIT, 16)
     }
 }

@@ -3,24 +3,23 @@ ghost use Rattle.roll.specs.Limits.{Gives, account_fault, opening_balance};
 ghost use Rattle.roll.specs.Standing.{balance_of};
 
 use crate::account::Account;
+use crate::field::FieldFault;
 use crate::limits::Limited;
 use image::AccountRecord;
 
 // A record with a field outside its limits opens no account, but tells the byte where the field begins.
 impl TryFrom<AccountRecord> for Account {
-    type Error = u8;
+    type Error = FieldFault;
 
     ghost try_from_gives = { Gives account_fault balance_of opening_balance };
 
-    fn try_from(source: AccountRecord) -> Result<Account, u8> {
-        match source.fault() {
-            Some(offset) => Err(offset),
-            None => Ok(Account {
-                code: source.code,
-                owner: source.owner,
-                funds: source.funds,
-                overnight: source.overnight,
-            }),
-        }
+    fn try_from(source: AccountRecord) -> Result<Account, FieldFault> {
+        source.tested()?;
+        Ok(Account {
+            code: source.code,
+            owner: source.owner,
+            funds: source.funds,
+            overnight: source.overnight,
+        })
     }
 }

@@ -3,6 +3,7 @@ ghost use Rattle.std.specs.Prelude.{◌≡◌};
 ghost use Rattle.roll.specs.Limits.{Gives, enrolled, participant_fault};
 ghost use Rattle.roll.specs.Marks.{marked};
 
+use crate::field::FieldFault;
 use crate::limits::Limited;
 use image::ParticipantRecord;
 
@@ -42,22 +43,20 @@ impl Participant {
 // Nobody is in default who is enrolled; a record with a field outside its limits enrols nobody, but tells the byte where the field
 // begins.
 impl TryFrom<ParticipantRecord> for Participant {
-    type Error = u8;
+    type Error = FieldFault;
 
     ghost try_from_gives = { Gives participant_fault (λ p. p) enrolled };
 
-    fn try_from(source: ParticipantRecord) -> Result<Participant, u8> {
-        match source.fault() {
-            Some(offset) => Err(offset),
-            None => Ok(Participant {
-                code: source.code,
-                futures: source.futures,
-                otc: source.otc,
-                margin: source.margin,
-                adjusted: source.adjusted,
-                in_scope: source.scope == 1,
-                in_default: false,
-            }),
-        }
+    fn try_from(source: ParticipantRecord) -> Result<Participant, FieldFault> {
+        source.tested()?;
+        Ok(Participant {
+            code: source.code,
+            futures: source.futures,
+            otc: source.otc,
+            margin: source.margin,
+            adjusted: source.adjusted,
+            in_scope: source.scope == 1,
+            in_default: false,
+        })
     }
 }

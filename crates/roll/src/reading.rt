@@ -3,12 +3,14 @@ ghost use Rattle.std.specs.Prelude.{◌≡◌, ℕ, ◌+◌, ◌*◌, ◌≤◌,
 ghost use Rattle.std.specs.List.{AllZip};
 ghost use Rattle.std.specs.Result.{result_map_both};
 ghost use Rattle.rows.specs.Tables.{records as table_records};
+ghost use Rattle.roll.specs.declared.field.FieldFault.{FieldFault as Outside};
 ghost use Rattle.roll.specs.Limits.{first_fault, told, roll_of, roll_bytes};
 ghost use Rattle.roll.specs.Read.{WithinLimits};
 ghost use Rattle.roll.specs.Standing.{standing};
 
 use crate::account::Account;
 use crate::fault::RollFault;
+use crate::field::FieldFault;
 use crate::limits::Limited;
 use crate::participant::Participant;
 use crate::table::Roll;
@@ -16,7 +18,7 @@ use image::{HEAD, ParticipantRecord};
 use rows::Table;
 
 // What the records of a table give that begins at a place, or the first field of one that is outside its limits.
-fn taken_in<R: Limited, T: TryFrom<R, Error = u8> + Copy, const N: usize>(
+fn taken_in<R: Limited, T: TryFrom<R, Error = FieldFault> + Copy, const N: usize>(
     records: &[R],
     from: usize,
     blank: T,
@@ -24,7 +26,7 @@ fn taken_in<R: Limited, T: TryFrom<R, Error = u8> + Copy, const N: usize>(
     requires in_image { from + R.WIDTH * length records.now ≤ 4423 }
     requires room { length records.now ≤ N }
     requires takes_faultless { (r : R) (x : T) → T.try_from_gives r (Ok x) → R.faulty r ≡ no_fault }
-    requires tells_the_fault { (r : R) (offset : ℕ) → T.try_from_gives r (Err offset) → R.faulty r ≡ Some offset }
+    requires tells_the_fault { (r : R) (fault : Outside) → T.try_from_gives r (Err fault) → R.faulty r ≡ Some fault.offset }
     ensures refuses_the_first_fault { result_map_both (λ _. tt) (λ fault. fault) result ≡ told (first_fault R.faulty R.WIDTH from records.now) }
     ensures takes_in_each { IfOk result (λ table. AllZip (λ r x. T.try_from_gives r (Ok x)) records.now (table_records table)) }
 {
@@ -32,8 +34,9 @@ fn taken_in<R: Limited, T: TryFrom<R, Error = u8> + Copy, const N: usize>(
     for (i, record) in records.iter().enumerate() {
         match T::try_from(*record) {
             Ok(taken) => table.push(taken),
-            Err(offset) => {
-                return Err(RollFault::Field((from + R::WIDTH * i + usize::from(offset)) as u16));
+            Err(fault) => {
+                let place = from + R::WIDTH * i + usize::from(fault.offset);
+                return Err(RollFault::Field(place as u16));
             }
         }
     }

@@ -13,7 +13,7 @@ push-requires g c =
 
 pub returns-in-Err-clause-refuses_the_first_fault : goal.returns-in-Err-clause-refuses_the_first_fault
 returns-in-Err-clause-refuses_the_first_fault g c =
-    told_here g.R.Limited.faulty g.R.Limited.WIDTH c.args.from c.args.records.now c.loop-i.i c.loop-i.invariant.faultless c.index-records-i.result c.in-Err.offset _ _ c.loop-i-test.true c.index-records-i.is
+    told_here g.R.Limited.faulty g.R.Limited.WIDTH c.args.from c.args.records.now c.loop-i.i c.loop-i.invariant.faultless c.index-records-i.result c.in-Err.fault.offset _ _ c.loop-i-test.true c.index-records-i.is
     (c.requires.tells_the_fault _ _ c.in-Err.ensures) c.WIDTH.ensures c.from.ensures
 
 pub loop-i-preserved : goal.loop-i-preserved
