@@ -1,9 +1,11 @@
 -- Sums and counts over a row, one element more at a time, and rows that are filled place by place. Assumes nothing.
-use Rattle.std.proofs.Common.{◌≡◌, ℕ, ◌+◌, ◌<◌, ◌≤◌, min, List, [], ◌∷◌, ◌++◌, map, length, get_or, take, drop, set, fold, sum_by, sym, refl, ap, ◌∙◌, ⊎_elim, arith}
+use Rattle.std.proofs.Common.{◌≡◌, ℕ, ◌+◌, ◌<◌, ◌≤◌, min, Bool, true, false, cond, List, [], ◌∷◌, ◌++◌, map, length, get_or, take, drop, set, fold, sum_by, count_by, sym, refl, ap, ◌∙◌, ⊎_elim, arith}
+use mir.Val.{bool_byte}
 use Rattle.std.specs.List.{range_with_len}
 use Rattle.std.proofs.lemmas.List.FromFn.{length-range_with_len, get_or-range_with_len}
 use Rattle.std.proofs.lemmas.List.{map_more, take_all, take_at, drop_more, drop_all, length-map, length-take-le, set_at, append_assoc}
 use Rattle.std.proofs.lemmas.Bool.{cases_lt}
+use Rattle.std.proofs.lemmas.List.Sums.{sum_by_more, sum_by-take-le}
 
 -- a sum over what a function gives of each element
 pub sum_by-map : {X Y : Type 0} (f : Y → ℕ) (g : X → Y) (xs : List X) → sum_by f (map g xs) ≡ sum_by (λ x. f (g x)) xs
@@ -12,6 +14,45 @@ sum_by-map {X} {Y} f g xs = along 0 xs
     along : (a : ℕ) (ys : List X) → fold (λ s y. s + f y) a (map g ys) ≡ fold (λ s x. s + f (g x)) a ys
     along a [] = refl
     along a (y ∷ ys) = along (a + f (g y)) ys
+
+-- how a loop stands that adds up: n is the sum over the first i elements
+abbrev pub Added : {X : Type 0} → (X → ℕ) → List X → ℕ → ℕ → Type 0
+Added f xs i n = n ≡ sum_by f (take i xs)
+
+module _ {X : Type 0} (f : X → ℕ) (xs : List X) where
+  pub added_more : (i n m : ℕ) (x : X) → i < length xs → x ≡ get_or xs i x → Added f xs i n → m ≡ f x → Added f xs (i + 1) (n + m)
+  added_more i n m x within read so is =
+      let at : f x ≡ f (get_or xs i x) = ap f read in
+      omega (arith, so, is, at, sum_by_more f xs i x within)
+
+  -- so far it is at most the whole sum
+  pub added_within : (i n m : ℕ) (x : X) → i < length xs → x ≡ get_or xs i x → Added f xs i n → m ≡ f x → n + m ≤ sum_by f xs
+  added_within i n m x within read so is = omega (arith, added_more i n m x within read so is, sum_by-take-le f xs (i + 1))
+
+  pub added_all : (i n : ℕ) → length xs ≤ i → Added f xs i n → n ≡ sum_by f xs
+  added_all i n past so = so ∙ ap (sum_by f) (take_all i xs past)
+
+-- how a loop stands that counts the elements which pass a test: n of the first i do
+abbrev pub Counted : {X : Type 0} → (X → Bool) → List X → ℕ → ℕ → Type 0
+Counted p xs i n = (n ≤ i) × Added (λ x. cond (p x) 1 0) xs i n
+
+bit_is : (b : Bool) → bool_byte b ≡ cond b 1 0
+bit_is true = refl
+bit_is false = refl
+
+bit_small : (b : Bool) → cond b 1 0 ≤ 1
+bit_small true = omega arith
+bit_small false = omega arith
+
+module _ {X : Type 0} (p : X → Bool) (xs : List X) where
+  pub counted_more : (i n m : ℕ) (x : X) (b : Bool) → i < length xs → x ≡ get_or xs i x → Counted p xs i n → m ≡ bool_byte b → b ≡ p x → Counted p xs (i + 1) (n + m)
+  counted_more i n m x b within read so bit test =
+      let is : m ≡ cond (p x) 1 0 = bit ∙ bit_is b ∙ ap (λ t. cond t 1 0) test in
+      let few = bit_small (p x) in
+      (omega (arith, is, so.0), added_more (λ y. cond (p y) 1 0) xs i n m x within read so.1 is)
+
+  pub counted_all : (i n : ℕ) → length xs ≤ i → Counted p xs i n → n ≡ count_by p xs
+  counted_all i n past so = added_all (λ x. cond (p x) 1 0) xs i n past so.1
 
 -- how a loop stands that writes f x for each element x: the first i places are written, the others are as they were
 abbrev pub filled : {X Y : Type 0} → (X → Y) → List X → List Y → ℕ → List Y
