@@ -1,7 +1,5 @@
-pub mod Saying
-pub mod Printing
-pub mod Lending
+pub mod Gathering
 mod Bearing
 mod Digits
-mod Single
+mod Telling
 mod Wording

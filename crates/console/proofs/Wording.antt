@@ -1,25 +1,8 @@
 -- How words come one after another: what ends one, and what goes on with it.
-use Rattle.std.proofs.Common.{◌≡◌, ℕ, ◌+◌, ◌<◌, ◌≤◌, true, false, cond, eqb, List, [], ◌∷◌, ◌++◌, map, length, get_or, drop, sym, refl, ap, ◌∙◌, arith}
-use Rattle.std.proofs.lemmas.List.{map_push, append-nil, append_assoc, at_drop_more, at_drop_all}
+use Rattle.std.proofs.Common.{◌≡◌, ℕ, ◌+◌, ◌<◌, ◌≤◌, true, false, cond, eqb, List, [], ◌∷◌, ◌++◌, length, get_or, drop, sym, ap, ◌∙◌}
+use Rattle.std.proofs.lemmas.List.{append_assoc, at_drop_more, at_drop_all}
 use Rattle.std.proofs.lemmas.Bool.{cond-true, cond-false, eq-eqb, ne_eqb}
 use Rattle.console.specs.Words.{blank, ended, words_after}
-
--- An empty word ends as none, any other as itself.
-ended_empty : (word : List ℕ) → length word ≡ 0 → ended word ≡ []
-ended_empty [] h = refl
-ended_empty (b ∷ bs) h = absurd (omega arith)
-
-ended_some : (word : List ℕ) → (length word ≡ 0 → ⊥) → ended word ≡ word ∷ []
-ended_some [] h = absurd (h refl)
-ended_some (b ∷ bs) h = refl
-
--- Words held as X, each with its bytes.
-module _ {X : Type 0} (bytes : X → List ℕ) (found : List X) (word : X) where
-  pub pushed_word : (length (bytes word) ≡ 0 → ⊥) → map bytes (found ++ word ∷ []) ≡ map bytes found ++ ended (bytes word)
-  pushed_word h = map_push bytes found word ∙ ap (λ ws. map bytes found ++ ws) (sym (ended_some (bytes word) h))
-
-  pub no_word : length (bytes word) ≡ 0 → map bytes found ≡ map bytes found ++ ended (bytes word)
-  no_word h = sym (append-nil (map bytes found)) ∙ ap (λ ws. map bytes found ++ ws) (sym (ended_empty (bytes word) h))
 
 -- The words found, and those of what is left from i on after the word so far, are all.
 module _ (line : List ℕ) (i : ℕ) (found : List (List ℕ)) (word : List ℕ) (all : List (List ℕ)) (inv : found ++ words_after word (drop i line) ≡ all) where

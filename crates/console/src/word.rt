@@ -8,7 +8,7 @@ use std::alloc::{AllocError, Global};
 fn is_blank(byte: u8) -> bool
     ensures { result ≡ blank byte }
 {
-    byte == b' ' || byte == b'\t' || byte == b'\r' || byte == 12
+    matches!(byte, b' ' | b'\t' | b'\r' | b'\x0c')
 }
 
 // Ends the word so far, if it has any bytes: it moves to the words found.
