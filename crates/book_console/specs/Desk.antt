@@ -1,5 +1,6 @@
 -- What the console keeps from line to line. Assumes nothing.
-use Rattle.std.specs.Prelude.{ℕ, Bool, false, cond, List, is_some, Some, None, Ok, Err, Option, Result}
+use Rattle.std.specs.Prelude.{ℕ, Bool, false, List, is_some, Some, None, Ok, Err, Option, Result}
+use Rattle.std.specs.Option.{option_map}
 use Rattle.commands.specs.declared.verb.BasisName.{BasisName}
 use Rattle.commands.specs.declared.verb.BasisName.TheVariants as named
 use Rattle.commands.specs.Meanings.{Order, explains, splits, goes_by, journals, opens, opens_file, lists_funds, Meaning, nothing, tells, bad_command, no_book, bad_number}
@@ -22,10 +23,10 @@ pub record Desk : Type 0 where
 -- What a console keeps: a book is there from its first accepted opening on.
 abbrev pub desk_of : Console → Desk
 desk_of console = record {
-  explaining = console.explaining;
+  explaining = console.splits.explaining;
   basis = console.basis;
   places = console.places;
-  book = cond console.opened (Some (model console.book)) None;
+  book = option_map model console.book;
 }
 
 -- At first no explanations are printed, books go by commitment, calls may use 4,096 places of the journal, and there is no

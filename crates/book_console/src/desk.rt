@@ -1,32 +1,29 @@
 // The console: it takes the lines one after another.
-ghost use Rattle.std.specs.Prelude.{◌≡◌, ◌++◌, is_ok, IfOk, if◌then◌else◌, vec_items, string_bytes, OnOk};
+ghost use Rattle.std.specs.Prelude.{◌≡◌, ◌++◌, is_ok, IsErr, if◌then◌else◌, vec_items, string_bytes, OnOk};
 ghost use Rattle.std.specs.Option.{option_map};
-ghost use Rattle.commands.specs.Meanings.{order as order_of, meaning};
+ghost use Rattle.commands.specs.Meanings.{order as order_of, meaning, read_as, OutOfMemory, Tells};
 ghost use Rattle.commands.specs.Readings.{reading_of};
 ghost use Rattle.book_console.specs.Answers.{opening_text, funds_text, order_text, text_of};
 ghost use Rattle.book_console.specs.Desk.{desk_of, starting, has_book, kept_open, kept_by, kept_after};
 
-use crate::answer::answer_split;
 use crate::funds::print_funds;
-use crate::opening::{answer_opening, opened_book};
+use crate::opening::{Opening, opened_book};
 use basis::Commitment;
 use book::Book;
-use commands::{BasisName, Command, Reading};
+use commands::{BasisName, Command, ReadError};
 use std::alloc::{AllocError, Global};
 
 // What the console keeps from line to line.
 #[derive(Drop)]
 pub struct Console {
-    // whether explanations are printed
-    explaining: bool,
+    // what the console that splits keeps: whether explanations are printed
+    splits: console::Console,
     // the basis on which the next book is opened
     basis: BasisName,
     // how many places of the journal calls may use
     places: usize,
-    // the book, an empty one before the first opening
-    book: Book<Commitment>,
-    // whether a book was opened
-    opened: bool,
+    // the book, from its first accepted opening on
+    book: Option<Book<Commitment>>,
 }
 
 impl Console {
@@ -35,11 +32,10 @@ impl Console {
         ensures starts_as_defined { desk_of result ≡ starting }
     {
         Console {
-            explaining: false,
+            splits: console::Console::new(),
             basis: BasisName::Commitment,
             places: 4096,
-            book: Book::new(Commitment),
-            opened: false,
+            book: None,
         }
     }
 
@@ -47,12 +43,12 @@ impl Console {
     pub fn has_book(&self) -> bool
         ensures is_whether_a_book_is_kept { result ≡ has_book (desk_of self.now) }
     {
-        self.opened
+        self.book.is_some()
     }
 
-    // What a line tells, given whether there is a book.
-    pub fn read(&self, heap: Global, line: &[u8]) -> Result<Reading, AllocError>
-        ensures means_what_the_line_tells { IfOk result (λ x. meaning x ≡ reading_of (has_book (desk_of self.now)) line.now) }
+    // What a line tells, given whether there is a book: nothing where it has no words, else a command.
+    pub fn read(&self, heap: Global, line: &[u8]) -> Result<Option<Command>, ReadError>
+        ensures means_what_the_line_tells { Tells meaning result (reading_of (has_book (desk_of self.now)) line.now) }
     {
         commands::read(heap, self.has_book(), line)
     }
@@ -64,10 +60,13 @@ impl Console {
         ensures answers { OnOk result (string_bytes out.new ≡ string_bytes out.old ++ opening_text image.now) }
     {
         let outcome = opened_book(self.basis, image);
-        answer_opening(&outcome, image, out)?;
+        let said = Opening {
+            outcome: &outcome,
+            image,
+        };
+        write!(out, "{said}")?;
         if let Ok(book) = outcome {
-            self.book = book;
-            self.opened = true;
+            self.book = Some(book);
         }
         Ok(())
     }
@@ -76,10 +75,9 @@ impl Console {
     fn list_funds(&self, out: &mut String) -> Result<(), AllocError>
         ensures { OnOk result (string_bytes out.new ≡ string_bytes out.old ++ funds_text (desk_of self.now).book) }
     {
-        if self.opened {
-            print_funds(self.book.roll().accounts(), out)
-        } else {
-            out.push_str("no book\n")
+        match &self.book {
+            Some(book) => print_funds(book.roll().accounts(), out),
+            None => writeln!(out, "no book"),
         }
     }
 
@@ -95,13 +93,7 @@ impl Console {
         ensures answers { OnOk result (string_bytes out.new ≡ string_bytes out.old ++ order_text (order_of command) (option_map vec_items file) (desk_of self.old)) }
     {
         match command {
-            Command::Explain { on } => {
-                self.explaining = on;
-                Ok(())
-            }
-            Command::Split { sum, bearers } => {
-                answer_split(heap, self.explaining, sum, bearers.as_slice(), out)
-            }
+            Command::Split(told) => self.splits.obey(heap, told, out),
             Command::Basis { name } => {
                 self.basis = name;
                 Ok(())
@@ -113,30 +105,31 @@ impl Console {
             Command::Image { bytes } => self.open(bytes.as_slice(), out),
             Command::Roll { .. } => match file {
                 Some(bytes) => self.open(bytes.as_slice(), out),
-                None => out.push_str("bad file\n"),
+                None => writeln!(out, "bad file"),
             },
             Command::Funds => self.list_funds(out),
         }
     }
 
-    // Does what a reading tells, given the bytes of the file that it names, if it names one that can be read; and
-    // appends the text that answers it. Where the call fails, for want of memory, what is kept is as it was.
+    // Does what an answer of `read` tells, given the bytes of the file that it names, if it names one that can be read;
+    // and appends the text that answers it. Where the call fails, for want of memory then or when the line was read, what
+    // is kept is as it was.
     pub fn tell(
         &mut self,
         heap: Global,
-        reading: Reading,
+        reading: Result<Option<Command>, ReadError>,
         file: Option<Vec<u8>>,
         out: &mut String,
     ) -> Result<(), AllocError>
-        ensures keeps_as_told { desk_of self.new ≡ (if is_ok result then kept_after (meaning reading) (option_map vec_items file) (desk_of self.old) else desk_of self.old) }
-        ensures answers_as_defined { OnOk result (string_bytes out.new ≡ string_bytes out.old ++ text_of (meaning reading) (option_map vec_items file) (desk_of self.old)) }
+        ensures keeps_as_told { desk_of self.new ≡ (if is_ok result then kept_after (read_as reading) (option_map vec_items file) (desk_of self.old) else desk_of self.old) }
+        ensures answers_as_defined { OnOk result (string_bytes out.new ≡ string_bytes out.old ++ text_of (read_as reading) (option_map vec_items file) (desk_of self.old)) }
+        ensures fails_where_reading_ran_out { OutOfMemory reading → IsErr result }
     {
         match reading {
-            Reading::Nothing => Ok(()),
-            Reading::Told(command) => self.obey(heap, command, file, out),
-            Reading::BadCommand => out.push_str("bad command\n"),
-            Reading::NoBook => out.push_str("no book\n"),
-            Reading::BadNumber => out.push_str("bad number\n"),
+            Ok(None) => Ok(()),
+            Ok(Some(command)) => self.obey(heap, command, file, out),
+            Err(ReadError::Line(console::ReadError::Memory(error))) => Err(error),
+            Err(error) => writeln!(out, "{error}"),
         }
     }
 }

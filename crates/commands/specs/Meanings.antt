@@ -71,6 +71,11 @@ abbrev pub read_as : Result (Option Command) ReadError → Meaning
 read_as (Ok told) = meaning told
 read_as (Err error) = fault error
 
+-- Memory ran out before the line was read.
+abbrev pub OutOfMemory : Result (Option Command) ReadError → Type 0
+OutOfMemory (Err (Line (Memory error))) = Unit {0}
+OutOfMemory _ = ⊥
+
 -- What is known of a line's meaning where reading it failed: which fault the line has, unless memory ran out.
 abbrev pub Fails : ReadError → Meaning → Type 0
 Fails (Line (Memory error)) m = Unit {0}
