@@ -1,6 +1,7 @@
 -- What the console keeps from line to line. Assumes nothing.
 use Rattle.std.specs.Prelude.{ℕ, Bool, false, List, is_some, Some, None, Ok, Err, Option, Result}
 use Rattle.std.specs.Option.{option_map}
+use Rattle.console.specs.Keeps.{explaining_of}
 use Rattle.commands.specs.declared.verb.BasisName.{BasisName}
 use Rattle.commands.specs.declared.verb.BasisName.TheVariants as named
 use Rattle.commands.specs.Meanings.{Order, explains, splits, goes_by, journals, opens, opens_file, lists_funds, Meaning, nothing, tells, bad_command, no_book, bad_number}
@@ -23,7 +24,7 @@ pub record Desk : Type 0 where
 -- What a console keeps: a book is there from its first accepted opening on.
 abbrev pub desk_of : Console → Desk
 desk_of console = record {
-  explaining = console.splits.explaining;
+  explaining = explaining_of console.splits;
   basis = console.basis;
   places = console.places;
   book = option_map model console.book;

@@ -1,10 +1,10 @@
 -- Where a word's first colon stands, and what a bearer is made of.
-use Rattle.std.proofs.Common.{◌≡◌, ◌==◌, ℕ, ◌+◌, ◌<◌, ◌≤◌, Bool, true, false, cond, List, [], map, length, get_or, take, drop, nat_lt, Some, None, Option, sym, refl, ap, ◌∙◌, arith}
+use Rattle.std.proofs.Common.{◌≡◌, ◌==◌, ℕ, ◌+◌, ◌<◌, ◌≤◌, List, [], map, length, get_or, take, drop, Some, None, Option, sym, refl, ap, ◌∙◌, arith}
 use Rattle.std.specs.List.{position, position_or_len}
 use Rattle.std.proofs.Math.Numerals.{one-add}
 use Rattle.std.proofs.lemmas.List.{at_drop_more, at_drop_all, drop_all}
 use Rattle.std.proofs.lemmas.List.Recursion.{is_position_or_len}
-use Rattle.std.proofs.lemmas.Bool.Decides.{nat_tests}
+use Rattle.console.proofs.Places.{found, missed}
 use Rattle.console.specs.Lists.{with_first}
 use Rattle.console.specs.Numerals.{digits_value, number_of}
 use Rattle.console.specs.Bearers.{colon_at, stake, bearer_of, bearers_of}
@@ -13,13 +13,6 @@ use Rattle.console.specs.Bearers.{colon_at, stake, bearer_of, bearers_of}
 ends_at : (word : List ℕ) → colon_at word ≡ position_or_len (λ b. b == 58) word
 unfolding colon_at
 ends_at = is_position_or_len colon_at (λ b. b == 58) refl (λ x xs. simp one-add)
-
-found : (within : Bool) (place at : ℕ) → Some at ≡ cond within (Some place) None → at ≡ place
-found true place at e = cc
-found false place at e = cc
-
-missed : (place many : ℕ) → None ≡ cond (nat_lt place many) (Some place) None → many ≤ place
-missed place many e = grind (arith, nat_tests)
 
 -- No bearer without a weight.
 nothing : (code : Option ℕ) → stake code None ≡ None
@@ -30,7 +23,7 @@ nothing (Some c) = refl
 module _ (word : List ℕ) (at : ℕ) (place : Some at ≡ position (λ b. b == 58) word) where
   pub made_of : (code weight : Option ℕ) → code ≡ number_of 4294967295 (take at word) → weight ≡ number_of 18446744073709551615 (drop (at + 1) word) → stake code weight ≡ bearer_of word
   unfolding bearer_of
-  made_of code weight p q = rw (p, q, found _ _ at place, ends_at word)
+  made_of code weight p q = rw (p, q, found _ word at place, ends_at word)
 
   pub no_code : None ≡ number_of 4294967295 (take at word) → None ≡ bearer_of word
   no_code p = made_of None (number_of 18446744073709551615 (drop (at + 1) word)) p refl
@@ -42,7 +35,7 @@ module _ (word : List ℕ) (at : ℕ) (place : Some at ≡ position (λ b. b == 
 pub no_colon : (word : List ℕ) → None ≡ position (λ b. b == 58) word → None ≡ bearer_of word
 unfolding bearer_of digits_value
 no_colon word e =
-    let beyond : length word ≤ colon_at word + 1 = omega (arith, missed _ _ e, ends_at word) in
+    let beyond : length word ≤ colon_at word + 1 = omega (arith, missed _ word e, ends_at word) in
     sym (nothing (number_of 4294967295 (take (colon_at word) word)))
     ∙ ap (λ rest. stake (number_of 4294967295 (take (colon_at word) word)) (number_of 18446744073709551615 rest)) (sym (drop_all (colon_at word + 1) word beyond))
 

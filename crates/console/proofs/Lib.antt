@@ -1,5 +1,6 @@
 pub mod Gathering
 mod Bearing
 mod Digits
+mod Places
 mod Telling
 mod Wording

@@ -1,25 +1,19 @@
 // Bearers as they are told: CODE:WEIGHT.
-ghost use Rattle.std.specs.Prelude.{◌≡◌, ◌==◌, map, position, vec_items};
+ghost use Rattle.std.specs.Prelude.{◌≡◌, map, vec_items};
 ghost use Rattle.console.specs.Bearers.{bearer_of, bearers_of};
 ghost use Rattle.console.specs.Readings.{Counts};
 
 use crate::error::ReadError;
 use crate::numeral::number;
+use crate::word::place_of;
 use split::Stake;
 use std::alloc::Global;
-
-// Where a word has its first colon, if it has one.
-fn colon(word: &[u8]) -> Option<usize>
-    ensures { result ≡ position (λ b. b == 58) word.now }
-{
-    word.iter().position(|b| *b == b':')
-}
 
 // The bearer that a word is: a code before its first colon, a weight after it.
 fn bearer(word: &[u8]) -> Option<Stake>
     ensures { result ≡ bearer_of word.now }
 {
-    let at = colon(word)?;
+    let at = place_of(b':', word)?;
     let code = number(&word[..at], u64::from(u32::MAX))?;
     let weight = number(&word[at + 1..], u64::MAX)?;
     Some(Stake {

@@ -2,6 +2,7 @@
 ghost use Rattle.std.specs.Prelude.{◌≡◌, false, ◌++◌, is_ok, if◌then◌else◌, string_bytes, OnOk};
 ghost use Rattle.console.specs.Answers.{text_of};
 ghost use Rattle.console.specs.Readings.{order, reading_of, explaining_after};
+ghost use Rattle.console.specs.Keeps.{explaining_of};
 
 use crate::answer::answer_split;
 use crate::command::{Command, read};
@@ -17,7 +18,7 @@ pub struct Console {
 impl Console {
     // A console that prints no explanations.
     pub fn new() -> Console
-        ensures explains_nothing_yet { result.explaining ≡ false }
+        ensures explains_nothing_yet { explaining_of result ≡ false }
     {
         Console { explaining: false }
     }
@@ -30,8 +31,8 @@ impl Console {
         command: Command,
         out: &mut String,
     ) -> Result<(), AllocError>
-        ensures explains_as_ordered { self.new.explaining ≡ (if is_ok result then explaining_after (order command) self.old.explaining else self.old.explaining) }
-        ensures answers_as_ordered { OnOk result (string_bytes out.new ≡ string_bytes out.old ++ text_of self.old.explaining (order command)) }
+        ensures explains_as_ordered { explaining_of self.new ≡ (if is_ok result then explaining_after (order command) (explaining_of self.old) else explaining_of self.old) }
+        ensures answers_as_ordered { OnOk result (string_bytes out.new ≡ string_bytes out.old ++ text_of (explaining_of self.old) (order command)) }
     {
         match command {
             Command::Explain { on } => {
@@ -47,8 +48,8 @@ impl Console {
     // Does what a line tells, and appends the text that answers it. Where the call fails, for want of memory, the
     // console is as it was.
     pub fn tell(&mut self, heap: Global, line: &[u8], out: &mut String) -> Result<(), AllocError>
-        ensures explains_as_told { self.new.explaining ≡ (if is_ok result then explaining_after (reading_of line.now) self.old.explaining else self.old.explaining) }
-        ensures answers_as_defined { OnOk result (string_bytes out.new ≡ string_bytes out.old ++ text_of self.old.explaining (reading_of line.now)) }
+        ensures explains_as_told { explaining_of self.new ≡ (if is_ok result then explaining_after (reading_of line.now) (explaining_of self.old) else explaining_of self.old) }
+        ensures answers_as_defined { OnOk result (string_bytes out.new ≡ string_bytes out.old ++ text_of (explaining_of self.old) (reading_of line.now)) }
     {
         match read(heap, line) {
             Ok(None) => Ok(()),
