@@ -4,7 +4,7 @@ ghost use Rattle.std.specs.Option.{option_map};
 ghost use Rattle.commands.specs.Meanings.{order as order_of, meaning, read_as, OutOfMemory, Tells};
 ghost use Rattle.commands.specs.Readings.{reading_of};
 ghost use Rattle.book_console.specs.Answers.{opening_text, funds_text, order_text, text_of};
-ghost use Rattle.book_console.specs.Desk.{desk_of, starting, has_book, kept_open, kept_by, kept_after};
+ghost use Rattle.book_console.specs.Desk.{starting, has_book, kept_open, kept_by, kept_after};
 
 use crate::funds::print_funds;
 use crate::opening::{Opening, opened_book};
@@ -12,6 +12,7 @@ use basis::Commitment;
 use book::Book;
 use commands::{BasisName, Command, ReadError};
 use std::alloc::{AllocError, Global};
+use std::marker::Model;
 
 // What the console keeps from line to line.
 #[derive(Drop)]
@@ -26,10 +27,21 @@ pub struct Console {
     book: Option<Book<Commitment>>,
 }
 
+// What a console is to a contract: what it keeps, of its book what the book's contracts say of it.
+impl Model for Console {
+    ghost use Rattle.std.specs.Option.{option_map};
+    ghost use Rattle.book.specs.Model.{model};
+    ghost use Rattle.book_console.specs.Desk.{Desk};
+
+    ghost Value = { Desk };
+
+    ghost view = { λ console. record { explaining = console.splits; basis = console.basis; places = console.places; book = option_map model console.book } };
+}
+
 impl Console {
     // A console that was told nothing yet.
     pub fn new() -> Console
-        ensures starts_as_defined { desk_of result ≡ starting }
+        ensures starts_as_defined { result ≡ starting }
     {
         Console {
             splits: console::Console::new(),
@@ -41,14 +53,14 @@ impl Console {
 
     // Whether there is a book.
     pub fn has_book(&self) -> bool
-        ensures is_whether_a_book_is_kept { result ≡ has_book (desk_of self.now) }
+        ensures is_whether_a_book_is_kept { result ≡ has_book self.now }
     {
         self.book.is_some()
     }
 
     // What a line tells, given whether there is a book: nothing where it has no words, else a command.
     pub fn read(&self, heap: Global, line: &[u8]) -> Result<Option<Command>, ReadError>
-        ensures means_what_the_line_tells { Tells meaning result (reading_of (has_book (desk_of self.now)) line.now) }
+        ensures means_what_the_line_tells { Tells meaning result (reading_of (has_book self.now) line.now) }
     {
         commands::read(heap, self.has_book(), line)
     }
@@ -56,7 +68,7 @@ impl Console {
     // Opens a book from the bytes, and appends the text that answers it. The text comes first, so that nothing is kept of
     // a call that fails.
     fn open(&mut self, image: &[u8], out: &mut String) -> Result<(), AllocError>
-        ensures keeps { desk_of self.new ≡ (if is_ok result then kept_open image.now (desk_of self.old) else desk_of self.old) }
+        ensures keeps { self.new ≡ (if is_ok result then kept_open image.now self.old else self.old) }
         ensures answers { OnOk result (string_bytes out.new ≡ string_bytes out.old ++ opening_text image.now) }
     {
         let outcome = opened_book(self.basis, image);
@@ -73,7 +85,7 @@ impl Console {
 
     // Lists the funds of the book.
     fn list_funds(&self, out: &mut String) -> Result<(), AllocError>
-        ensures { OnOk result (string_bytes out.new ≡ string_bytes out.old ++ funds_text (desk_of self.now).book) }
+        ensures { OnOk result (string_bytes out.new ≡ string_bytes out.old ++ funds_text self.now.book) }
     {
         match &self.book {
             Some(book) => print_funds(book.roll().accounts(), out),
@@ -89,8 +101,8 @@ impl Console {
         file: Option<Vec<u8>>,
         out: &mut String,
     ) -> Result<(), AllocError>
-        ensures keeps { desk_of self.new ≡ (if is_ok result then kept_by (order_of command) (option_map vec_items file) (desk_of self.old) else desk_of self.old) }
-        ensures answers { OnOk result (string_bytes out.new ≡ string_bytes out.old ++ order_text (order_of command) (option_map vec_items file) (desk_of self.old)) }
+        ensures keeps { self.new ≡ (if is_ok result then kept_by (order_of command) (option_map vec_items file) self.old else self.old) }
+        ensures answers { OnOk result (string_bytes out.new ≡ string_bytes out.old ++ order_text (order_of command) (option_map vec_items file) self.old) }
     {
         match command {
             Command::Split(told) => self.splits.obey(heap, told, out),
@@ -121,8 +133,8 @@ impl Console {
         file: Option<Vec<u8>>,
         out: &mut String,
     ) -> Result<(), AllocError>
-        ensures keeps_as_told { desk_of self.new ≡ (if is_ok result then kept_after (read_as reading) (option_map vec_items file) (desk_of self.old) else desk_of self.old) }
-        ensures answers_as_defined { OnOk result (string_bytes out.new ≡ string_bytes out.old ++ text_of (read_as reading) (option_map vec_items file) (desk_of self.old)) }
+        ensures keeps_as_told { self.new ≡ (if is_ok result then kept_after (read_as reading) (option_map vec_items file) self.old else self.old) }
+        ensures answers_as_defined { OnOk result (string_bytes out.new ≡ string_bytes out.old ++ text_of (read_as reading) (option_map vec_items file) self.old) }
         ensures fails_where_reading_ran_out { OutOfMemory reading → IsErr result }
     {
         match reading {

@@ -1,7 +1,6 @@
 pub mod Answers
 pub mod Bearers
 pub mod Complaints
-pub mod Keeps
 pub mod Lines
 pub mod Lists
 pub mod Numerals

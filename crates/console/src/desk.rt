@@ -1,13 +1,13 @@
 // The console: it takes the lines one after another.
-ghost use Rattle.std.specs.Prelude.{◌≡◌, false, ◌++◌, is_ok, if◌then◌else◌, string_bytes, OnOk};
+ghost use Rattle.std.specs.Prelude.{◌≡◌, Bool, false, ◌++◌, is_ok, if◌then◌else◌, string_bytes, OnOk};
 ghost use Rattle.console.specs.Answers.{text_of};
 ghost use Rattle.console.specs.Readings.{order, reading_of, explaining_after};
-ghost use Rattle.console.specs.Keeps.{explaining_of};
 
 use crate::answer::answer_split;
 use crate::command::{Command, read};
 use crate::error::ReadError;
 use std::alloc::{AllocError, Global};
+use std::marker::Model;
 
 // What the console keeps from line to line: whether explanations are printed.
 #[derive(Clone, Copy, Debug)]
@@ -15,10 +15,19 @@ pub struct Console {
     explaining: bool,
 }
 
+// What a console is to a contract: whether explanations are printed.
+impl Model for Console {
+    ghost Value = { Bool };
+
+    ghost view = { λ console. console.explaining };
+
+    ghost inverse = { λ explaining. record { explaining = explaining } };
+}
+
 impl Console {
     // A console that prints no explanations.
     pub fn new() -> Console
-        ensures explains_nothing_yet { explaining_of result ≡ false }
+        ensures explains_nothing_yet { result ≡ false }
     {
         Console { explaining: false }
     }
@@ -31,8 +40,8 @@ impl Console {
         command: Command,
         out: &mut String,
     ) -> Result<(), AllocError>
-        ensures explains_as_ordered { explaining_of self.new ≡ (if is_ok result then explaining_after (order command) (explaining_of self.old) else explaining_of self.old) }
-        ensures answers_as_ordered { OnOk result (string_bytes out.new ≡ string_bytes out.old ++ text_of (explaining_of self.old) (order command)) }
+        ensures explains_as_ordered { self.new ≡ (if is_ok result then explaining_after (order command) self.old else self.old) }
+        ensures answers_as_ordered { OnOk result (string_bytes out.new ≡ string_bytes out.old ++ text_of self.old (order command)) }
     {
         match command {
             Command::Explain { on } => {
@@ -48,8 +57,8 @@ impl Console {
     // Does what a line tells, and appends the text that answers it. Where the call fails, for want of memory, the
     // console is as it was.
     pub fn tell(&mut self, heap: Global, line: &[u8], out: &mut String) -> Result<(), AllocError>
-        ensures explains_as_told { explaining_of self.new ≡ (if is_ok result then explaining_after (reading_of line.now) (explaining_of self.old) else explaining_of self.old) }
-        ensures answers_as_defined { OnOk result (string_bytes out.new ≡ string_bytes out.old ++ text_of (explaining_of self.old) (reading_of line.now)) }
+        ensures explains_as_told { self.new ≡ (if is_ok result then explaining_after (reading_of line.now) self.old else self.old) }
+        ensures answers_as_defined { OnOk result (string_bytes out.new ≡ string_bytes out.old ++ text_of self.old (reading_of line.now)) }
     {
         match read(heap, line) {
             Ok(None) => Ok(()),
