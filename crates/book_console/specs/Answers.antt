@@ -1,29 +1,13 @@
 -- The text that answers a line. Assumes nothing.
-use Rattle.std.specs.Prelude.{ℕ, Bool, cond, List, [], ◌++◌, length, Some, None, Ok, Err, Option, Result}
+use Rattle.std.specs.Prelude.{ℕ, List, [], ◌++◌, Some, None, Option}
 use Rattle.std.specs.List.{flat_map}
-use Rattle.split.specs.declared.bearer.Stake.{Stake}
-use Rattle.split.specs.declared.refusal.Refusal.{Refusal}
-use Rattle.split.specs.Reasons.{reason}
-use Rattle.split.specs.Refusals.{answer, number_of}
-use Rattle.split.specs.Shares.{share}
+use Rattle.console.specs.Answers.{split_text}
 use Rattle.commands.specs.Meanings.{Order, explains, splits, goes_by, journals, opens, opens_file, lists_funds, Meaning, nothing, tells, bad_command, no_book, bad_number}
 use Rattle.basis.specs.declared.commitment.Commitment.{Commitment}
 use Rattle.book.specs.Model.{Model, standing_of}
 use Rattle.book.specs.Opening.{opening, check_value}
 use Rattle.book_console.specs.Desk.{Desk}
-use Rattle.book_console.specs.Lines.{plain_line, refusal_line, share_line, reason_line, opening_line, check_line, funds_line}
-
--- What is said of one bearer: its share, and while explanations are printed the reason of it.
-abbrev pub bearer_lines : Bool → ℕ → List Stake → Stake → List ℕ
-bearer_lines explaining sum xs x = share_line x.code (share sum xs x) ++ cond explaining (reason_line sum (reason sum xs x)) []
-
--- What is said of a split: the lines of each bearer in their order, or the refusal alone.
-abbrev pub split_said : Result (Unit {0}) Refusal → List ℕ → List ℕ
-split_said (Ok _) lines = lines
-split_said (Err refusal) lines = refusal_line (number_of refusal)
-
-abbrev pub split_text : Bool → ℕ → List Stake → List ℕ
-split_text explaining sum xs = split_said (answer sum (length xs) xs) (flat_map (bearer_lines explaining sum xs) xs)
+use Rattle.book_console.specs.Lines.{plain_line, opening_line, check_line, funds_line}
 
 -- What is said of an opening: whether it is accepted, then what the check answers for the same bytes.
 abbrev pub opening_text : List ℕ → List ℕ

@@ -1,32 +1,22 @@
 -- What the console keeps from line to line. Assumes nothing.
-use Rattle.std.specs.Prelude.{ℕ, Bool, false, cond, List, is_some, Some, None, Ok, Err, Option, Result}
+use Rattle.std.specs.Prelude.{ℕ, Bool, false, List, is_some, Some, None, Ok, Err, Option, Result}
 use Rattle.commands.specs.declared.verb.BasisName.{BasisName}
 use Rattle.commands.specs.declared.verb.BasisName.TheVariants as named
 use Rattle.commands.specs.Meanings.{Order, explains, splits, goes_by, journals, opens, opens_file, lists_funds, Meaning, nothing, tells, bad_command, no_book, bad_number}
 use Rattle.roll.specs.Standing.{Standing}
 use Rattle.basis.specs.declared.commitment.Commitment.{Commitment}
 use Rattle.book.specs.declared.fault.OpenFault.{OpenFault}
-use Rattle.book.specs.Model.{Model, model, fresh}
+use Rattle.book.specs.Model.{Model, fresh}
 use Rattle.book.specs.Opening.{opening}
-use Rattle.book_console.specs.declared.desk.Console.{Console}
 use Rattle.book_console.specs.Bases.{basis_called}
 
 -- Whether explanations are printed, the basis of the next opening, how many places of the journal calls may use, and the
--- book, if there is one.
+-- book, which is there from the first accepted opening on.
 pub record Desk : Type 0 where
   pub explaining : Bool
   pub basis : BasisName
   pub places : ℕ
   pub book : Option (Model Commitment)
-
--- What a console keeps: a book is there from its first accepted opening on.
-abbrev pub desk_of : Console → Desk
-desk_of console = record {
-  explaining = console.explaining;
-  basis = console.basis;
-  places = console.places;
-  book = cond console.opened (Some (model console.book)) None;
-}
 
 -- At first no explanations are printed, books go by commitment, calls may use 4,096 places of the journal, and there is no
 -- book.

@@ -1,58 +1,66 @@
 // The console: it takes the lines one after another.
-ghost use Rattle.std.specs.Prelude.{◌≡◌, ◌++◌, is_ok, IfOk, if◌then◌else◌, vec_items, string_bytes, OnOk};
+ghost use Rattle.std.specs.Prelude.{◌≡◌, ◌++◌, is_ok, IsErr, if◌then◌else◌, vec_items, string_bytes, OnOk};
 ghost use Rattle.std.specs.Option.{option_map};
-ghost use Rattle.commands.specs.Meanings.{order as order_of, meaning};
+ghost use Rattle.commands.specs.Meanings.{order as order_of, meaning, read_as, OutOfMemory, Tells};
 ghost use Rattle.commands.specs.Readings.{reading_of};
 ghost use Rattle.book_console.specs.Answers.{opening_text, funds_text, order_text, text_of};
-ghost use Rattle.book_console.specs.Desk.{desk_of, starting, has_book, kept_open, kept_by, kept_after};
+ghost use Rattle.book_console.specs.Desk.{starting, has_book, kept_open, kept_by, kept_after};
 
-use crate::answer::answer_split;
 use crate::funds::print_funds;
-use crate::opening::{answer_opening, opened_book};
+use crate::opening::{Opening, opened_book};
 use basis::Commitment;
 use book::Book;
-use commands::{BasisName, Command, Reading};
+use commands::{BasisName, Command, ReadError};
 use std::alloc::{AllocError, Global};
+use std::marker::Model;
 
 // What the console keeps from line to line.
 #[derive(Drop)]
 pub struct Console {
-    // whether explanations are printed
-    explaining: bool,
+    // what the console that splits keeps: whether explanations are printed
+    splits: console::Console,
     // the basis on which the next book is opened
     basis: BasisName,
     // how many places of the journal calls may use
     places: usize,
-    // the book, an empty one before the first opening
-    book: Book<Commitment>,
-    // whether a book was opened
-    opened: bool,
+    // the book, from its first accepted opening on
+    book: Option<Book<Commitment>>,
+}
+
+// What a console is to a contract: what it keeps, of its book what the book's contracts say of it.
+impl Model for Console {
+    ghost use Rattle.std.specs.Option.{option_map};
+    ghost use Rattle.book.specs.Model.{model};
+    ghost use Rattle.book_console.specs.Desk.{Desk};
+
+    ghost Value = { Desk };
+
+    ghost view = { λ console. record { explaining = console.splits; basis = console.basis; places = console.places; book = option_map model console.book } };
 }
 
 impl Console {
     // A console that was told nothing yet.
     pub fn new() -> Console
-        ensures starts_as_defined { desk_of result ≡ starting }
+        ensures starts_as_defined { result ≡ starting }
     {
         Console {
-            explaining: false,
+            splits: console::Console::new(),
             basis: BasisName::Commitment,
             places: 4096,
-            book: Book::new(Commitment),
-            opened: false,
+            book: None,
         }
     }
 
     // Whether there is a book.
     pub fn has_book(&self) -> bool
-        ensures is_whether_a_book_is_kept { result ≡ has_book (desk_of self.now) }
+        ensures is_whether_a_book_is_kept { result ≡ has_book self.now }
     {
-        self.opened
+        self.book.is_some()
     }
 
-    // What a line tells, given whether there is a book.
-    pub fn read(&self, heap: Global, line: &[u8]) -> Result<Reading, AllocError>
-        ensures means_what_the_line_tells { IfOk result (λ x. meaning x ≡ reading_of (has_book (desk_of self.now)) line.now) }
+    // What a line tells, given whether there is a book: nothing where it has no words, else a command.
+    pub fn read(&self, heap: Global, line: &[u8]) -> Result<Option<Command>, ReadError>
+        ensures means_what_the_line_tells { Tells meaning result (reading_of (has_book self.now) line.now) }
     {
         commands::read(heap, self.has_book(), line)
     }
@@ -60,26 +68,28 @@ impl Console {
     // Opens a book from the bytes, and appends the text that answers it. The text comes first, so that nothing is kept of
     // a call that fails.
     fn open(&mut self, image: &[u8], out: &mut String) -> Result<(), AllocError>
-        ensures keeps { desk_of self.new ≡ (if is_ok result then kept_open image.now (desk_of self.old) else desk_of self.old) }
+        ensures keeps { self.new ≡ (if is_ok result then kept_open image.now self.old else self.old) }
         ensures answers { OnOk result (string_bytes out.new ≡ string_bytes out.old ++ opening_text image.now) }
     {
         let outcome = opened_book(self.basis, image);
-        answer_opening(&outcome, image, out)?;
+        let said = Opening {
+            outcome: &outcome,
+            image,
+        };
+        write!(out, "{said}")?;
         if let Ok(book) = outcome {
-            self.book = book;
-            self.opened = true;
+            self.book = Some(book);
         }
         Ok(())
     }
 
     // Lists the funds of the book.
     fn list_funds(&self, out: &mut String) -> Result<(), AllocError>
-        ensures { OnOk result (string_bytes out.new ≡ string_bytes out.old ++ funds_text (desk_of self.now).book) }
+        ensures { OnOk result (string_bytes out.new ≡ string_bytes out.old ++ funds_text self.now.book) }
     {
-        if self.opened {
-            print_funds(self.book.roll().accounts(), out)
-        } else {
-            out.push_str("no book\n")
+        match &self.book {
+            Some(book) => print_funds(book.roll().accounts(), out),
+            None => writeln!(out, "no book"),
         }
     }
 
@@ -91,17 +101,11 @@ impl Console {
         file: Option<Vec<u8>>,
         out: &mut String,
     ) -> Result<(), AllocError>
-        ensures keeps { desk_of self.new ≡ (if is_ok result then kept_by (order_of command) (option_map vec_items file) (desk_of self.old) else desk_of self.old) }
-        ensures answers { OnOk result (string_bytes out.new ≡ string_bytes out.old ++ order_text (order_of command) (option_map vec_items file) (desk_of self.old)) }
+        ensures keeps { self.new ≡ (if is_ok result then kept_by (order_of command) (option_map vec_items file) self.old else self.old) }
+        ensures answers { OnOk result (string_bytes out.new ≡ string_bytes out.old ++ order_text (order_of command) (option_map vec_items file) self.old) }
     {
         match command {
-            Command::Explain { on } => {
-                self.explaining = on;
-                Ok(())
-            }
-            Command::Split { sum, bearers } => {
-                answer_split(heap, self.explaining, sum, bearers.as_slice(), out)
-            }
+            Command::Split(told) => self.splits.obey(heap, told, out),
             Command::Basis { name } => {
                 self.basis = name;
                 Ok(())
@@ -113,30 +117,31 @@ impl Console {
             Command::Image { bytes } => self.open(bytes.as_slice(), out),
             Command::Roll { .. } => match file {
                 Some(bytes) => self.open(bytes.as_slice(), out),
-                None => out.push_str("bad file\n"),
+                None => writeln!(out, "bad file"),
             },
             Command::Funds => self.list_funds(out),
         }
     }
 
-    // Does what a reading tells, given the bytes of the file that it names, if it names one that can be read; and
-    // appends the text that answers it. Where the call fails, for want of memory, what is kept is as it was.
+    // Does what an answer of `read` tells, given the bytes of the file that it names, if it names one that can be read;
+    // and appends the text that answers it. Where the call fails, for want of memory then or when the line was read, what
+    // is kept is as it was.
     pub fn tell(
         &mut self,
         heap: Global,
-        reading: Reading,
+        reading: Result<Option<Command>, ReadError>,
         file: Option<Vec<u8>>,
         out: &mut String,
     ) -> Result<(), AllocError>
-        ensures keeps_as_told { desk_of self.new ≡ (if is_ok result then kept_after (meaning reading) (option_map vec_items file) (desk_of self.old) else desk_of self.old) }
-        ensures answers_as_defined { OnOk result (string_bytes out.new ≡ string_bytes out.old ++ text_of (meaning reading) (option_map vec_items file) (desk_of self.old)) }
+        ensures keeps_as_told { self.new ≡ (if is_ok result then kept_after (read_as reading) (option_map vec_items file) self.old else self.old) }
+        ensures answers_as_defined { OnOk result (string_bytes out.new ≡ string_bytes out.old ++ text_of (read_as reading) (option_map vec_items file) self.old) }
+        ensures fails_where_reading_ran_out { OutOfMemory reading → IsErr result }
     {
         match reading {
-            Reading::Nothing => Ok(()),
-            Reading::Told(command) => self.obey(heap, command, file, out),
-            Reading::BadCommand => out.push_str("bad command\n"),
-            Reading::NoBook => out.push_str("no book\n"),
-            Reading::BadNumber => out.push_str("bad number\n"),
+            Ok(None) => Ok(()),
+            Ok(Some(command)) => self.obey(heap, command, file, out),
+            Err(ReadError::Line(console::ReadError::Memory(error))) => Err(error),
+            Err(error) => writeln!(out, "{error}"),
         }
     }
 }

@@ -1,28 +1,36 @@
 // The text that lists funds.
-ghost use Rattle.std.specs.Prelude.{◌≡◌, ◌++◌, map, string_bytes, OnOk};
+ghost use Rattle.std.specs.Prelude.{◌≡◌, ◌++◌, map, Some, string_bytes, OnOk};
 ghost use Rattle.std.specs.List.{flat_map};
 ghost use Rattle.roll.specs.Standing.{balance_of};
 ghost use Rattle.book_console.specs.Lines.{funds_line};
 
 use roll::Account;
 use std::alloc::AllocError;
+use std::fmt;
 
-fn print_account(account: &Account, out: &mut String) -> Result<(), AllocError>
-    ensures { OnOk result (string_bytes out.new ≡ string_bytes out.old ++ funds_line (balance_of account.now)) }
-{
-    writeln!(
-        out,
-        "{} {} {}",
-        account.code, account.funds, account.overnight
-    )
+// The line of an account: its funds and its overnight money.
+#[derive(Clone, Copy)]
+struct Funds<'a>(&'a Account);
+
+impl fmt::Display for Funds<'_> {
+    ghost output = { λ line. Some (funds_line (balance_of line.0.now)) };
+
+    fn fmt<W: fmt::Write>(&self, f: &mut fmt::Formatter<W>) -> fmt::Result {
+        let account = self.0;
+        writeln!(
+            f,
+            "{} {} {}",
+            account.code, account.funds, account.overnight
+        )
+    }
 }
 
-// The funds and the overnight money of each account.
+// The funds of the accounts, in their order.
 pub(crate) fn print_funds(accounts: &[Account], out: &mut String) -> Result<(), AllocError>
     ensures { OnOk result (string_bytes out.new ≡ string_bytes out.old ++ flat_map funds_line (map balance_of accounts.now)) }
 {
     for account in accounts {
-        print_account(account, out)?;
+        write!(out, "{}", Funds(account))?;
     }
     Ok(())
 }

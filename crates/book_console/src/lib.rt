@@ -1,11 +1,9 @@
 // The console of the allocation book: it does what a line tells, and answers it.
 #![tactic(auto)]
 
-mod answer;
 mod desk;
 mod funds;
 mod opening;
-mod outcome;
 mod streams;
 
 pub use desk::Console;

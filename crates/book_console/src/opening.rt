@@ -1,17 +1,17 @@
 // Opening a book, and the text that answers it.
-ghost use Rattle.std.specs.Prelude.{◌≡◌, ◌++◌, string_bytes, OnOk};
+ghost use Rattle.std.specs.Prelude.{◌≡◌, ◌++◌, Some};
 ghost use Rattle.std.specs.Result.{result_map_both};
 ghost use Rattle.book.specs.Model.{model, fresh};
 ghost use Rattle.book.specs.Opening.{opening, check_value};
 ghost use Rattle.book_console.specs.Bases.{basis_called};
-ghost use Rattle.book_console.specs.Lines.{layer_name, fault_line, opening_line, check_line};
+ghost use Rattle.book_console.specs.Lines.{fault_line, opening_line, check_line};
 
 use basis::Commitment;
 use book::{Book, Layer, OpenFault};
 use commands::BasisName;
-use std::alloc::AllocError;
+use std::fmt;
 
-// The basis that a name stands for.
+// The basis that a name stands for. No `From`: the name's crate knows no basis, and the basis' crate no names.
 fn basis_called(name: BasisName) -> Commitment
     ensures { result ≡ basis_called name }
 {
@@ -30,58 +30,45 @@ pub(crate) fn opened_book(name: BasisName, image: &[u8]) -> Result<Book<Commitme
     Ok(book)
 }
 
-fn layer_name(layer: Layer) -> &'static str
-    ensures { result.now ≡ layer_name layer }
-{
-    match layer {
-        Layer::Image => "image",
-        Layer::Roll => "roll",
-        Layer::Book => "book",
+// The line of a refused opening.
+#[derive(Clone, Copy)]
+struct Refused(OpenFault);
+
+impl fmt::Display for Refused {
+    ghost output = { λ line. Some (fault_line line.0) };
+
+    fn fmt<W: fmt::Write>(&self, f: &mut fmt::Formatter<W>) -> fmt::Result {
+        let fault = self.0;
+        let layer = match fault.layer() {
+            Layer::Image => "image",
+            Layer::Roll => "roll",
+            Layer::Book => "book",
+        };
+        writeln!(
+            f,
+            "refused {} place {} layer {layer}",
+            fault.number(),
+            fault.place()
+        )
     }
 }
 
-fn print_fault(fault: OpenFault, out: &mut String) -> Result<(), AllocError>
-    ensures { OnOk result (string_bytes out.new ≡ string_bytes out.old ++ fault_line fault) }
-{
-    let layer = layer_name(fault.layer());
-    writeln!(
-        out,
-        "refused {} place {} layer {layer}",
-        fault.number(),
-        fault.place()
-    )
+// What is said of an opening from an image: whether a book was opened, or why not; then what the check answers for the
+// same bytes.
+#[derive(Clone, Copy)]
+pub(crate) struct Opening<'a> {
+    pub(crate) outcome: &'a Result<Book<Commitment>, OpenFault>,
+    pub(crate) image: &'a [u8],
 }
 
-// What the check answers for the same bytes.
-fn print_check(image: &[u8], out: &mut String) -> Result<(), AllocError>
-    ensures { OnOk result (string_bytes out.new ≡ string_bytes out.old ++ check_line (check_value (opening image.now))) }
-{
-    let value = book::allocation_book_check(image);
-    writeln!(out, "check {value}")
-}
+impl fmt::Display for Opening<'_> {
+    ghost output = { λ said. Some (opening_line said.outcome.now ++ check_line (check_value (opening said.image.now))) };
 
-// Whether a book was opened, or why not.
-fn print_outcome(
-    outcome: &Result<Book<Commitment>, OpenFault>,
-    out: &mut String,
-) -> Result<(), AllocError>
-    ensures { OnOk result (string_bytes out.new ≡ string_bytes out.old ++ opening_line outcome.now) }
-{
-    match outcome {
-        Ok(_) => out.push_str("open ok\n"),
-        Err(fault) => print_fault(*fault, out),
+    fn fmt<W: fmt::Write>(&self, f: &mut fmt::Formatter<W>) -> fmt::Result {
+        match self.outcome {
+            Ok(_) => writeln!(f, "open ok")?,
+            Err(fault) => write!(f, "{}", Refused(*fault))?,
+        }
+        writeln!(f, "check {}", book::allocation_book_check(self.image))
     }
-}
-
-// Appends the text that answers an opening from these bytes, given what it came to.
-pub(crate) fn answer_opening(
-    outcome: &Result<Book<Commitment>, OpenFault>,
-    image: &[u8],
-    out: &mut String,
-) -> Result<(), AllocError>
-    ensures { OnOk result (string_bytes out.new ≡ string_bytes out.old ++ (opening_line outcome.now ++ check_line (check_value (opening image.now)))) }
-{
-    print_outcome(outcome, out)?;
-    print_check(image, out)?;
-    Ok(())
 }

@@ -1,59 +1,26 @@
 // The console at standard input and output. No contract can say what is read and printed: the programs over it are run,
 // and what they write is compared.
-ghost use Rattle.std.specs.Prelude.{◌≡◌};
-ghost use Rattle.book_console.specs.Ends.{unended};
-
 use crate::desk::Console;
-use commands::{Command, Reading};
-use std::io::{BufRead, BufReader, BufWriter, Write};
+use commands::{Command, ReadError};
+use console::serve_with;
 use std::{fs, io};
 
-// A line without the byte that ends it, which the last may lack.
-fn without_end(line: &[u8]) -> &[u8]
-    ensures { result.now ≡ unended line.now }
-{
-    let len = line.len();
-    if len > 0 && line[len - 1] == b'\n' {
-        &line[0..len - 1]
-    } else {
-        line
-    }
-}
-
-// The bytes of the file that a reading names, if it names one that can be read.
-fn fetch(rt: &HostRuntime, reading: &Reading) -> Option<Vec<u8>> {
-    let Reading::Told(Command::Roll { path }) = reading else {
+// The bytes of the file that a command names, if it names one that can be read.
+fn fetch(rt: &HostRuntime, reading: &Result<Option<Command>, ReadError>) -> Option<Vec<u8>> {
+    let Ok(Some(Command::Roll { path })) = reading else {
         return None;
     };
-    match std::str::from_utf8(path.as_slice()) {
-        Ok(text) => fs::read(rt, text).ok(),
-        Err(_) => None,
-    }
+    let text = std::str::from_utf8(path.as_slice()).ok()?;
+    fs::read(rt, text).ok()
 }
 
 // Reads commands from standard input, one a line, and answers each on standard output, until the input ends.
 pub fn serve(rt: &HostRuntime) -> io::Result<()> {
     let heap = rt.alloc();
-    let mut input = BufReader::new(heap, rt.stdin())?;
-    let mut output = BufWriter::new(heap, rt.stdout())?;
-    let mut console = Console::new();
-    let mut line = Vec::new(heap);
-    let mut answer = String::new(heap);
-    // Nothing says that an input ends, so the lines are counted.
-    for _ in 0..u64::MAX {
-        if input.read_until(b'\n', &mut line)? == 0 {
-            break;
-        }
-        let reading = console.read(heap, without_end(line.as_slice()))?;
+    let mut desk = Console::new();
+    serve_with(rt, |line, out| {
+        let reading = desk.read(heap, line);
         let file = fetch(rt, &reading);
-        console.tell(heap, reading, file, &mut answer)?;
-        output.write_all(answer.as_bytes())?;
-        // Where no more input waits, what is answered so far goes out.
-        if input.buffer().is_empty() {
-            output.flush()?;
-        }
-        line.clear();
-        answer.clear();
-    }
-    output.flush()
+        Ok(desk.tell(heap, reading, file, out)?)
+    })
 }

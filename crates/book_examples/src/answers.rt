@@ -8,7 +8,7 @@ fn answers(heap: Global, lines: &[&[u8]]) -> Result<String, AllocError> {
     let mut console = Console::new();
     let mut out = String::new(heap);
     for line in lines {
-        let reading = console.read(heap, line)?;
+        let reading = console.read(heap, line);
         console.tell(heap, reading, None, &mut out)?;
     }
     Ok(out)

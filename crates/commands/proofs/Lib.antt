@@ -1,6 +1,1 @@
-mod Arguments
-mod Bearing
-mod Digits
-mod Gathering
 mod Pairing
-mod Wording

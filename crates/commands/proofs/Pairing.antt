@@ -1,31 +1,25 @@
 -- The pairs of hexadecimal digits of a word, one after another.
-use Rattle.std.proofs.Common.{◌≡◌, ℕ, ◌+◌, ◌*◌, ◌%◌, ◌<◌, ◌≤◌, List, [], ◌∷◌, length, get_or, drop, Some, None, sym, refl, ap, ◌∙◌, arith}
-use Rattle.std.proofs.lemmas.List.{at_drop_more, at_drop_all}
+use Rattle.std.proofs.Common.{◌≡◌, ℕ, ◌-◌, ◌<◌, ◌≤◌, List, [], ◌∷◌, length, get_or, take, drop, Some, None, sym, refl, ap, arith}
+use Rattle.std.proofs.lemmas.List.{take_rest}
+use Rattle.console.specs.Lists.{with_first}
 use Rattle.commands.specs.Hex.{digit_value, byte_of, bytes_of}
-use Rattle.commands.specs.Lists.{with_first}
-use Rattle.commands.proofs.Gathering.{no_rest}
 
--- What is left of a word after i pairs.
-module _ (word : List ℕ) (i : ℕ) where
-  pub pairs_more : 2 * i + 1 < length word →
-      bytes_of (drop (2 * i) word) ≡ with_first (byte_of (digit_value (get_or word (2 * i) 0)) (digit_value (get_or word (2 * i + 1) 0))) (bytes_of (drop (2 * (i + 1)) word))
-  unfolding bytes_of
-  pairs_more h =
-      let next : 2 * i + 1 + 1 ≡ 2 * (i + 1) = omega arith in
-      at_drop_more bytes_of word (2 * i) 0 (omega arith)
-      ∙ at_drop_more (λ rest. bytes_of (get_or word (2 * i) 0 ∷ rest)) word (2 * i + 1) 0 h
-      ∙ ap (λ n. with_first (byte_of (digit_value (get_or word (2 * i) 0)) (digit_value (get_or word (2 * i + 1) 0))) (bytes_of (drop n word))) next
+-- The first two digits are a pair, and the rest goes on.
+pub pairs_more : (digits : List ℕ) → 2 ≤ length digits →
+    bytes_of digits ≡ with_first (byte_of (digit_value (get_or digits 0 0)) (digit_value (get_or digits 1 0))) (bytes_of (take (length digits - 2) (drop 2 digits)))
+unfolding bytes_of
+pairs_more [] h = absurd (omega arith)
+pairs_more (a ∷ []) h = absurd (omega arith)
+pairs_more (a ∷ b ∷ rest) h = ap (λ l. with_first (byte_of (digit_value a) (digit_value b)) (bytes_of l)) (sym (take_rest (a ∷ b ∷ rest) 2))
 
-  pub pairs_all : length word ≤ 2 * i → bytes_of (drop (2 * i) word) ≡ Some []
-  unfolding bytes_of
-  pairs_all h = at_drop_all bytes_of word (2 * i) h
+pub pairs_all : (digits : List ℕ) → length digits ≡ 0 → bytes_of digits ≡ Some []
+unfolding bytes_of
+pairs_all [] h = refl
+pairs_all (a ∷ rest) h = absurd (omega arith)
 
 -- A digit that is left alone.
-pub odd_word : (word : List ℕ) → (length word % 2 ≡ 0 → ⊥) → None ≡ bytes_of word
+pub left_alone : (digits : List ℕ) → length digits < 2 → (length digits ≡ 0 → ⊥) → bytes_of digits ≡ None
 unfolding bytes_of
-odd_word [] h = absurd (h refl)
-odd_word (a ∷ []) h = refl
-odd_word (a ∷ b ∷ rest) h =
-    let pair = byte_of (digit_value a) (digit_value b) in
-    let shorter : length rest % 2 ≡ 0 → ⊥ = λ e. h (omega arith) in
-    sym (no_rest pair) ∙ ap (with_first pair) (odd_word rest shorter)
+left_alone [] h some = absurd (some refl)
+left_alone (a ∷ []) h some = refl
+left_alone (a ∷ b ∷ rest) h some = absurd (omega arith)

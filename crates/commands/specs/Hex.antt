@@ -1,7 +1,7 @@
 -- Bytes told by pairs of hexadecimal digits. Assumes nothing.
 use Rattle.std.specs.Prelude.{ℕ, ◌+◌, ◌-◌, ◌*◌, Bool, cond, ◌&&◌, List, [], ◌∷◌, Some, None, Option, nat_le}
-use Rattle.commands.specs.Lists.{with_first}
-use Rattle.commands.specs.Numerals.{digit}
+use Rattle.console.specs.Lists.{with_first}
+use Rattle.console.specs.Numerals.{digit}
 
 -- The bytes from a first to a last.
 abbrev pub between : ℕ → ℕ → ℕ → Bool

@@ -1,8 +1,5 @@
-pub mod Bearers
+pub mod Complaints
 pub mod Hex
-pub mod Lists
 pub mod Meanings
-pub mod Numerals
 pub mod Readings
 pub mod Verbs
-pub mod Words

@@ -1,9 +1,10 @@
 // Bytes told by pairs of hexadecimal digits.
-ghost use Rattle.std.specs.Prelude.{◌≡◌, IfOk, vec_items};
-ghost use Rattle.std.specs.Option.{option_map};
+ghost use Rattle.std.specs.Prelude.{◌≡◌, vec_items};
+ghost use Rattle.console.specs.Readings.{Counts};
 ghost use Rattle.commands.specs.Hex.{digit_value, byte_of, bytes_of};
 
-use std::alloc::{AllocError, Global};
+use console::ReadError;
+use std::alloc::Global;
 
 // The value of a digit, in either case.
 fn digit(byte: u8) -> Option<u8>
@@ -27,18 +28,19 @@ fn pair(first: u8, second: u8) -> Option<u8>
 }
 
 // The bytes that a word is, a pair of digits each.
-pub(crate) fn hex(heap: Global, word: &[u8]) -> Result<Option<Vec<u8>>, AllocError>
-    ensures { IfOk result (λ found. option_map vec_items found ≡ bytes_of word.now) }
+pub(crate) fn hex(heap: Global, word: &[u8]) -> Result<Vec<u8>, ReadError>
+    ensures { Counts vec_items result (bytes_of word.now) }
 {
-    if word.len() % 2 != 0 {
-        return Ok(None);
-    }
     let mut found = Vec::new(heap);
-    for i in 0..word.len() / 2 {
-        let Some(byte) = pair(word[2 * i], word[2 * i + 1]) else {
-            return Ok(None);
-        };
+    let mut digits = word;
+    while let [first, second, rest @ ..] = digits {
+        let byte = pair(*first, *second).ok_or(ReadError::BadNumber)?;
         found.push(byte)?;
+        digits = rest;
     }
-    Ok(Some(found))
+    if digits.is_empty() {
+        Ok(found)
+    } else {
+        Err(ReadError::BadNumber)
+    }
 }

@@ -1,7 +1,6 @@
-pub mod Saying
-pub mod Printing
-pub mod Lending
+pub mod Gathering
 mod Bearing
 mod Digits
-mod Single
+mod Places
+mod Telling
 mod Wording

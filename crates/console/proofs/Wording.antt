@@ -1,47 +1,59 @@
--- How words come one after another: what ends one, and what goes on with it.
-use Rattle.std.proofs.Common.{◌≡◌, ℕ, ◌+◌, ◌<◌, ◌≤◌, true, false, cond, eqb, List, [], ◌∷◌, ◌++◌, map, length, get_or, drop, sym, refl, ap, ◌∙◌, arith}
-use Rattle.std.proofs.lemmas.List.{map_push, append-nil, append_assoc, at_drop_more, at_drop_all}
-use Rattle.std.proofs.lemmas.Bool.{cond-true, cond-false, eq-eqb, ne_eqb}
-use Rattle.console.specs.Words.{blank, ended, words_after}
+-- The words of a line are the parts between its blanks that have bytes.
+use Rattle.std.proofs.Common.{◌≡◌, ℕ, Bool, true, false, cond, not, eqb, nat_eq, List, [], ◌∷◌, ◌++◌, length, filter, sym, refl, ap, ◌∙◌, arith}
+use Rattle.std.specs.List.{All, before_first, slice_split}
+use Rattle.std.proofs.Math.Numerals.{one-add}
+use Rattle.std.proofs.lemmas.List.{append-nil, append_assoc}
+use Rattle.std.proofs.lemmas.Bool.{cond-true, cond-false, ne_eqb}
+use Rattle.std.proofs.lemmas.List.Elements.{All-nil, All-push}
+use Rattle.std.proofs.lemmas.List.Splits.{slice_split_none, slice_split_at}
+use Rattle.console.specs.Words.{blank, ended, words_after, words_of}
 
--- An empty word ends as none, any other as itself.
-ended_empty : (word : List ℕ) → length word ≡ 0 → ended word ≡ []
-ended_empty [] h = refl
-ended_empty (b ∷ bs) h = absurd (omega arith)
+-- Whether a part has bytes.
+abbrev pub some : List ℕ → Bool
+some part = not (nat_eq (length part) 0)
 
-ended_some : (word : List ℕ) → (length word ≡ 0 → ⊥) → ended word ≡ word ∷ []
-ended_some [] h = absurd (h refl)
-ended_some (b ∷ bs) h = refl
+-- The line up to the first `#`.
+abbrev told : List ℕ → List ℕ
+told line = before_first (λ b. eqb b 35) line
 
--- Words held as X, each with its bytes.
-module _ {X : Type 0} (bytes : X → List ℕ) (found : List X) (word : X) where
-  pub pushed_word : (length (bytes word) ≡ 0 → ⊥) → map bytes (found ++ word ∷ []) ≡ map bytes found ++ ended (bytes word)
-  pushed_word h = map_push bytes found word ∙ ap (λ ws. map bytes found ++ ws) (sym (ended_some (bytes word) h))
+told_more : (b : ℕ) (bs : List ℕ) → eqb b 35 ≡ false → told (b ∷ bs) ≡ b ∷ told bs
+told_more b bs other = rw (other, one-add)
 
-  pub no_word : length (bytes word) ≡ 0 → map bytes found ≡ map bytes found ++ ended (bytes word)
-  no_word h = sym (append-nil (map bytes found)) ∙ ap (λ ws. map bytes found ++ ws) (sym (ended_empty (bytes word) h))
+told_none : (b : ℕ) (bs : List ℕ) → eqb b 35 ≡ true → told (b ∷ bs) ≡ []
+told_none b bs hash = rw hash
 
--- The words found, and those of what is left from i on after the word so far, are all.
-module _ (line : List ℕ) (i : ℕ) (found : List (List ℕ)) (word : List ℕ) (all : List (List ℕ)) (inv : found ++ words_after word (drop i line) ≡ all) where
-  -- Where the rest comes to ws, so does all.
-  comes_to : (ws : List (List ℕ)) → words_after word (drop i line) ≡ ws → found ++ ws ≡ all
-  comes_to ws e = ap (λ x. found ++ x) (sym e) ∙ inv
+ends : (word : List ℕ) (rest : List (List ℕ)) → filter some (word ∷ rest) ≡ ended word ++ filter some rest
+ends [] rest = refl
+ends (b ∷ bs) rest = cond-true (some (b ∷ bs)) _ _ (ap not (ne_eqb (length (b ∷ bs)) 0 (λ none. absurd (omega arith))))
 
-  pub at_end : length line ≤ i → found ++ ended word ≡ all
-  unfolding words_after
-  at_end h = comes_to (ended word) (at_drop_all (words_after word) line i h)
+-- A word so far, with no blank in it, ends as the last part.
+last : (word : List ℕ) → All (λ b. blank b ≡ false) word → ended word ≡ filter some (slice_split blank (word ++ []))
+last word apart =
+    sym (ap (λ w. filter some (slice_split blank w)) (append-nil word) ∙ ap (filter some) (slice_split_none blank word apart) ∙ ends word [] ∙ append-nil (ended word))
 
-  pub at_comment : i < length line → get_or line i 0 ≡ 35 → found ++ ended word ≡ all
-  unfolding words_after
-  at_comment h e = comes_to (ended word) (at_drop_more (words_after word) line i 0 h ∙ cond-true (eqb (get_or line i 0) 35) _ _ (eq-eqb (get_or line i 0) 35 e))
+-- One byte more: it begins the comment, ends the word, or goes on with it.
+step : (b : ℕ) (bs word : List ℕ) → All (λ b. blank b ≡ false) word → (hash : Bool) → eqb b 35 ≡ hash → (gap : Bool) → blank b ≡ gap →
+    words_after [] bs ≡ filter some (slice_split blank (told bs)) →
+    (All (λ b. blank b ≡ false) (word ++ b ∷ []) → words_after (word ++ b ∷ []) bs ≡ filter some (slice_split blank ((word ++ b ∷ []) ++ told bs))) →
+    cond (eqb b 35) (ended word) (cond (blank b) (ended word ++ words_after [] bs) (words_after (word ++ b ∷ []) bs)) ≡ filter some (slice_split blank (word ++ told (b ∷ bs)))
+step b bs word apart true h gap g afresh onward =
+    cond-true (eqb b 35) _ _ h ∙ last word apart ∙ ap (λ l. filter some (slice_split blank (word ++ l))) (sym (told_none b bs h))
+step b bs word apart false h true g afresh onward =
+    cond-false (eqb b 35) _ _ h ∙ cond-true (blank b) _ _ g
+    ∙ ap (λ ws. ended word ++ ws) afresh
+    ∙ sym (ends word (slice_split blank (told bs)))
+    ∙ ap (filter some) (sym (slice_split_at blank word b (told bs) apart g))
+    ∙ ap (λ l. filter some (slice_split blank (word ++ l))) (sym (told_more b bs h))
+step b bs word apart false h false g afresh onward =
+    cond-false (eqb b 35) _ _ h ∙ cond-false (blank b) _ _ g
+    ∙ onward (All-push (λ b. blank b ≡ false) word b apart g)
+    ∙ ap (λ l. filter some (slice_split blank l)) (append_assoc word (b ∷ []) (told bs))
+    ∙ ap (λ l. filter some (slice_split blank (word ++ l))) (sym (told_more b bs h))
 
-  -- A byte that begins no comment.
-  at_byte : i < length line → (get_or line i 0 ≡ 35 → ⊥) → words_after word (drop i line) ≡ cond (blank (get_or line i 0)) (ended word ++ words_after [] (drop (i + 1) line)) (words_after (word ++ get_or line i 0 ∷ []) (drop (i + 1) line))
-  unfolding words_after
-  at_byte h n = at_drop_more (words_after word) line i 0 h ∙ cond-false (eqb (get_or line i 0) 35) _ _ (ne_eqb (get_or line i 0) 35 n)
+cut : (line word : List ℕ) → All (λ b. blank b ≡ false) word → words_after word line ≡ filter some (slice_split blank (word ++ told line))
+unfolding words_after
+cut [] word apart = last word apart
+cut (b ∷ bs) word apart = step b bs word apart (eqb b 35) refl (blank b) refl (cut bs [] (All-nil _)) (cut bs (word ++ b ∷ []))
 
-  pub at_blank : i < length line → (get_or line i 0 ≡ 35 → ⊥) → blank (get_or line i 0) ≡ true → (found ++ ended word) ++ words_after [] (drop (i + 1) line) ≡ all
-  at_blank h n b = append_assoc found (ended word) _ ∙ comes_to _ (at_byte h n ∙ cond-true (blank (get_or line i 0)) _ _ b)
-
-  pub at_more : i < length line → (get_or line i 0 ≡ 35 → ⊥) → blank (get_or line i 0) ≡ false → found ++ words_after (word ++ get_or line i 0 ∷ []) (drop (i + 1) line) ≡ all
-  at_more h n b = comes_to _ (at_byte h n ∙ cond-false (blank (get_or line i 0)) _ _ b)
+pub are_words : (line before : List ℕ) → before ≡ told line → filter some (slice_split blank before) ≡ words_of line
+are_words line before same = ap (λ l. filter some (slice_split blank l)) same ∙ sym (cut line [] (All-nil _))

@@ -1,6 +1,7 @@
 -- Bearers as they are told: CODE:WEIGHT. Assumes nothing.
 use Rattle.std.specs.Prelude.{ℕ, suc, ◌+◌, cond, List, [], ◌∷◌, take, drop, Some, None, Option, ◌==◌}
 use Rattle.split.specs.declared.bearer.Stake.{Stake}
+use Rattle.console.specs.Lists.{with_first}
 use Rattle.console.specs.Numerals.{number_of}
 
 -- How many bytes stand before the first colon: all where there is none.
@@ -21,11 +22,6 @@ bearer_of word =
     stake (number_of 4294967295 (take (colon_at word) word)) (number_of 18446744073709551615 (drop (colon_at word + 1) word))
 
 -- The bearers that words are, none where one of them is no bearer.
-abbrev pub with_first : Option Stake → Option (List Stake) → Option (List Stake)
-with_first None rest = None
-with_first (Some x) None = None
-with_first (Some x) (Some xs) = Some (x ∷ xs)
-
 unfoldable pub bearers_of : List (List ℕ) → Option (List Stake)
 bearers_of [] = Some []
 bearers_of (word ∷ rest) = with_first (bearer_of word) (bearers_of rest)

@@ -1,8 +1,9 @@
 pub mod Answers
 pub mod Bearers
+pub mod Complaints
 pub mod Lines
+pub mod Lists
 pub mod Numerals
-pub mod Outcomes
 pub mod Readings
 pub mod Verbs
 pub mod Words

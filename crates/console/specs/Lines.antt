@@ -1,6 +1,5 @@
 -- The lines that answer a split. Assumes nothing.
 use Rattle.std.specs.Prelude.{ℕ, Bool, cond, List, [], ◌∷◌, ◌++◌, codes, decimal}
-use Rattle.split.specs.declared.bearer.Stake.{Stake}
 use Rattle.split.specs.declared.reason.Reason.{Reason}
 
 -- `refused N`.
@@ -32,12 +31,6 @@ gets_part extra = cond extra (codes ": gets one" ++ 10 ∷ []) (codes ": gets no
 abbrev pub reason_line : ℕ → Reason → List ℕ
 reason_line sum r = division_part sum r ++ (rank_part r ++ gets_part r.extra)
 
--- The lines of a row of bearers and the amounts beside them.
-unfoldable pub share_lines : List Stake → List ℕ → List ℕ
-share_lines [] amounts = []
-share_lines (x ∷ xs) [] = []
-share_lines (x ∷ xs) (amount ∷ amounts) = share_line x.code amount ++ share_lines xs amounts
-
--- A share and its reason: two lines.
-abbrev pub explained_line : ℕ → Reason → List ℕ
-explained_line sum r = share_line r.division.code r.share ++ reason_line sum r
+-- What is said of one bearer: its share, and while explanations are printed the reason of it.
+abbrev pub told_lines : Bool → ℕ → Reason → List ℕ
+told_lines explaining sum r = share_line r.division.code r.share ++ cond explaining (reason_line sum r) []

@@ -1,9 +1,10 @@
 -- What a line tells. Assumes nothing.
-use Rattle.std.specs.Prelude.{ℕ, Bool, List, [], ◌∷◌, Some, None, vec_items, Option}
+use Rattle.std.specs.Prelude.{◌≡◌, ℕ, Bool, List, [], ◌∷◌, Some, None, vec_items, Option, Result, MatchResult}
 use Rattle.split.specs.declared.bearer.Stake.{Stake}
+use Rattle.console.specs.declared.command.Command.{Command}
 use Rattle.console.specs.declared.command.Command.TheVariants as command
-use Rattle.console.specs.declared.command.Reading.{Reading}
-use Rattle.console.specs.declared.command.Reading.TheVariants as reading
+use Rattle.console.specs.declared.error.ReadError.{ReadError}
+use Rattle.console.specs.declared.error.ReadError.TheVariants.{Memory, BadCommand, BadNumber}
 use Rattle.console.specs.declared.verb.Verb.{Verb}
 use Rattle.console.specs.declared.verb.Verb.TheVariants.{Explain, Split}
 use Rattle.console.specs.Bearers.{bearers_of}
@@ -19,13 +20,44 @@ pub data Meaning : Type 0 where
   bad_command : Meaning
   bad_number : Meaning
 
--- What a reading means.
-abbrev pub meaning : Reading → Meaning
-meaning reading.Nothing = nothing
-meaning (reading.Told (command.Explain on)) = explains on
-meaning (reading.Told (command.Split sum bearers)) = splits sum (vec_items bearers)
-meaning reading.BadCommand = bad_command
-meaning reading.BadNumber = bad_number
+-- What a command orders.
+abbrev pub order : Command → Meaning
+order (command.Explain on) = explains on
+order (command.Split sum bearers) = splits sum (vec_items bearers)
+
+-- What a line means of which this was read: nothing, or what the command orders.
+abbrev pub meaning : Option Command → Meaning
+meaning None = nothing
+meaning (Some told) = order told
+
+-- What is known of a line's meaning where reading it failed: which fault the line has, unless memory ran out.
+abbrev pub Fails : ReadError → Meaning → Type 0
+Fails (Memory error) m = Unit {0}
+Fails BadCommand m = bad_command ≡ m
+Fails BadNumber m = bad_number ≡ m
+
+-- What was read means just what the line tells, unless memory ran out.
+abbrev pub Tells : {X : Type 0} → (X → Meaning) → Result X ReadError → Meaning → Type 0
+Tells means read m = MatchResult read (λ x. means x ≡ m) (λ error. Fails error m)
+
+-- The same of a part of a line that has to be a number, or a row of numbers: the only fault is that it is none.
+abbrev pub NotCounted : {X : Type 0} → ReadError → Option X → Type 0
+NotCounted (Memory error) value = Unit {0}
+NotCounted BadCommand value = ⊥
+NotCounted BadNumber value = None ≡ value
+
+abbrev pub Counts : {X Y : Type 0} → (X → Y) → Result X ReadError → Option Y → Type 0
+Counts holds read value = MatchResult read (λ x. Some (holds x) ≡ value) (λ error. NotCounted error value)
+
+-- A command that takes just one word.
+abbrev pub only : List (List ℕ) → Option (List ℕ)
+only [] = None
+only (word ∷ []) = Some word
+only (word ∷ more ∷ rest) = None
+
+abbrev pub by_word : (List ℕ → Meaning) → Option (List ℕ) → Meaning
+by_word told None = bad_command
+by_word told (Some word) = told word
 
 -- `explain` takes one word, `on` or `off`.
 abbrev pub explains_if : Option Bool → Meaning
@@ -33,9 +65,7 @@ explains_if None = bad_command
 explains_if (Some on) = explains on
 
 abbrev pub explain_told : List (List ℕ) → Meaning
-explain_told [] = bad_command
-explain_told (word ∷ []) = explains_if (switch_of word)
-explain_told (word ∷ more ∷ rest) = bad_command
+explain_told words = by_word (λ word. explains_if (switch_of word)) (only words)
 
 -- `split` takes a sum of 64 bits, then any number of bearers.
 abbrev pub splits_if : Option ℕ → Option (List Stake) → Meaning

@@ -1,34 +1,20 @@
 // Bearers as they are told: CODE:WEIGHT.
-ghost use Rattle.std.specs.Prelude.{◌≡◌, ◌≤◌, map, length, IfOk, vec_items};
-ghost use Rattle.std.specs.Option.{option_map};
-ghost use Rattle.console.specs.Bearers.{colon_at, bearer_of, bearers_of};
+ghost use Rattle.std.specs.Prelude.{◌≡◌, map, vec_items};
+ghost use Rattle.console.specs.Bearers.{bearer_of, bearers_of};
+ghost use Rattle.console.specs.Readings.{Counts};
 
+use crate::error::ReadError;
 use crate::numeral::number;
+use crate::word::place_of;
 use split::Stake;
-use std::alloc::{AllocError, Global};
+use std::alloc::Global;
 
-// How many bytes stand before the first colon: all where there is none.
-fn colon(word: &[u8]) -> usize
-    ensures place { result ≡ colon_at word.now }
-    ensures within { result ≤ length word.now }
-{
-    for (i, b) in word.iter().enumerate() {
-        if *b == b':' {
-            return i;
-        }
-    }
-    word.len()
-}
-
-// The bearer that a word is.
-pub(crate) fn bearer(word: &[u8]) -> Option<Stake>
+// The bearer that a word is: a code before its first colon, a weight after it.
+fn bearer(word: &[u8]) -> Option<Stake>
     ensures { result ≡ bearer_of word.now }
 {
-    let at = colon(word);
-    if at == word.len() {
-        return None;
-    }
-    let code = number(&word[0..at], u64::from(u32::MAX))?;
+    let at = place_of(b':', word)?;
+    let code = number(&word[..at], u64::from(u32::MAX))?;
     let weight = number(&word[at + 1..], u64::MAX)?;
     Some(Stake {
         code: code as u32,
@@ -36,16 +22,14 @@ pub(crate) fn bearer(word: &[u8]) -> Option<Stake>
     })
 }
 
-// The bearers that words are, in their order, or none where one of them is no bearer.
-pub(crate) fn bearers(heap: Global, words: &[Vec<u8>]) -> Result<Option<Vec<Stake>>, AllocError>
-    ensures { IfOk result (λ found. option_map vec_items found ≡ bearers_of (map vec_items words.now)) }
+// The bearers that words are, in their order. No word may be no bearer.
+pub(crate) fn bearers(heap: Global, words: &[Vec<u8>]) -> Result<Vec<Stake>, ReadError>
+    ensures { Counts vec_items result (bearers_of (map vec_items words.now)) }
 {
     let mut found = Vec::new(heap);
     for word in words {
-        let Some(stake) = bearer(word.as_slice()) else {
-            return Ok(None);
-        };
+        let stake = bearer(word.as_slice()).ok_or(ReadError::BadNumber)?;
         found.push(stake)?;
     }
-    Ok(Some(found))
+    Ok(found)
 }

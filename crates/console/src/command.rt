@@ -1,13 +1,15 @@
 // What a line tells.
-ghost use Rattle.std.specs.Prelude.{◌≡◌, map, IfOk, vec_items};
-ghost use Rattle.console.specs.Readings.{meaning, explain_told, split_told, told, reading_of};
+ghost use Rattle.std.specs.Prelude.{◌≡◌, map, vec_items};
+ghost use Rattle.std.specs.Option.{option_map};
+ghost use Rattle.console.specs.Readings.{order, meaning, Tells, only as the_only, explain_told, split_told, told, reading_of};
 
 use crate::bearer::bearers;
+use crate::error::ReadError;
 use crate::numeral::number;
 use crate::verb::{Verb, switch, verb_named};
 use crate::word::words;
 use split::Stake;
-use std::alloc::{AllocError, Global};
+use std::alloc::Global;
 
 // What the book is told to do.
 #[derive(Drop)]
@@ -18,64 +20,53 @@ pub enum Command {
     Split { sum: u64, bearers: Vec<Stake> },
 }
 
-// What reading a line comes to.
-#[derive(Drop)]
-pub enum Reading {
-    // The line has no words.
-    Nothing,
-    Told(Command),
-    // The first word is no command, or the number of its words is wrong.
-    BadCommand,
-    // A word that is to be a number is none, or does not fit.
-    BadNumber,
+// The word of a command that takes just one.
+pub fn only(words: &[Vec<u8>]) -> Option<&[u8]>
+    ensures gives_the_word_that_stands_alone { option_map (λ word. word.now) result ≡ the_only (map vec_items words.now) }
+{
+    match words {
+        [word] => Some(word.as_slice()),
+        _ => None,
+    }
 }
 
 // `explain on` and `explain off`.
-fn read_explain(arguments: &[Vec<u8>]) -> Reading
-    ensures { meaning result ≡ explain_told (map vec_items arguments.now) }
+fn read_explain(arguments: &[Vec<u8>]) -> Result<Command, ReadError>
+    ensures { Tells order result (explain_told (map vec_items arguments.now)) }
 {
-    if arguments.len() != 1 {
-        return Reading::BadCommand;
-    }
-    match switch(arguments[0].as_slice()) {
-        Some(on) => Reading::Told(Command::Explain { on }),
-        None => Reading::BadCommand,
-    }
+    let word = only(arguments).ok_or(ReadError::BadCommand)?;
+    let on = switch(word).ok_or(ReadError::BadCommand)?;
+    Ok(Command::Explain { on })
 }
 
 // `split SUM CODE:WEIGHT ..`.
-fn read_split(heap: Global, arguments: &[Vec<u8>]) -> Result<Reading, AllocError>
-    ensures { IfOk result (λ x. meaning x ≡ split_told (map vec_items arguments.now)) }
+fn read_split(heap: Global, arguments: &[Vec<u8>]) -> Result<Command, ReadError>
+    ensures { Tells order result (split_told (map vec_items arguments.now)) }
 {
-    let Some((first, rest)) = arguments.split_first() else {
-        return Ok(Reading::BadCommand);
-    };
-    let Some(sum) = number(first.as_slice(), u64::MAX) else {
-        return Ok(Reading::BadNumber);
-    };
-    match bearers(heap, rest)? {
-        Some(bearers) => Ok(Reading::Told(Command::Split { sum, bearers })),
-        None => Ok(Reading::BadNumber),
-    }
+    let (first, rest) = arguments.split_first().ok_or(ReadError::BadCommand)?;
+    let sum = number(first.as_slice(), u64::MAX).ok_or(ReadError::BadNumber)?;
+    let bearers = bearers(heap, rest)?;
+    Ok(Command::Split { sum, bearers })
 }
 
-// What the words of a line tell.
-fn read_words(heap: Global, words: &[Vec<u8>]) -> Result<Reading, AllocError>
-    ensures { IfOk result (λ x. meaning x ≡ told (map vec_items words.now)) }
+// What the words of a line tell: nothing where there are none, else a command.
+pub fn read_words(heap: Global, words: &[Vec<u8>]) -> Result<Option<Command>, ReadError>
+    ensures means_what_the_words_tell { Tells meaning result (told (map vec_items words.now)) }
 {
     let Some((first, arguments)) = words.split_first() else {
-        return Ok(Reading::Nothing);
+        return Ok(None);
     };
-    match verb_named(first.as_slice()) {
-        Some(Verb::Explain) => Ok(read_explain(arguments)),
-        Some(Verb::Split) => read_split(heap, arguments),
-        None => Ok(Reading::BadCommand),
-    }
+    let verb = verb_named(first.as_slice()).ok_or(ReadError::BadCommand)?;
+    let command = match verb {
+        Verb::Explain => read_explain(arguments)?,
+        Verb::Split => read_split(heap, arguments)?,
+    };
+    Ok(Some(command))
 }
 
-// What a line tells.
-pub fn read(heap: Global, line: &[u8]) -> Result<Reading, AllocError>
-    ensures means_what_the_line_tells { IfOk result (λ x. meaning x ≡ reading_of line.now) }
+// What a line tells: nothing where it has no words, else a command.
+pub fn read(heap: Global, line: &[u8]) -> Result<Option<Command>, ReadError>
+    ensures means_what_the_line_tells { Tells meaning result (reading_of line.now) }
 {
     let found = words(heap, line)?;
     read_words(heap, found.as_slice())

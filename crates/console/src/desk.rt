@@ -1,11 +1,13 @@
 // The console: it takes the lines one after another.
-ghost use Rattle.std.specs.Prelude.{◌≡◌, false, ◌++◌, is_ok, if◌then◌else◌, string_bytes, OnOk};
+ghost use Rattle.std.specs.Prelude.{◌≡◌, Bool, false, ◌++◌, is_ok, if◌then◌else◌, string_bytes, OnOk};
 ghost use Rattle.console.specs.Answers.{text_of};
-ghost use Rattle.console.specs.Readings.{reading_of, explaining_after};
+ghost use Rattle.console.specs.Readings.{order, reading_of, explaining_after};
 
 use crate::answer::answer_split;
-use crate::command::{Command, Reading, read};
+use crate::command::{Command, read};
+use crate::error::ReadError;
 use std::alloc::{AllocError, Global};
+use std::marker::Model;
 
 // What the console keeps from line to line: whether explanations are printed.
 #[derive(Clone, Copy, Debug)]
@@ -13,31 +15,56 @@ pub struct Console {
     explaining: bool,
 }
 
+// What a console is to a contract: whether explanations are printed.
+impl Model for Console {
+    ghost Value = { Bool };
+
+    ghost view = { λ console. console.explaining };
+
+    ghost inverse = { λ explaining. record { explaining = explaining } };
+}
+
 impl Console {
     // A console that prints no explanations.
     pub fn new() -> Console
-        ensures explains_nothing_yet { result.explaining ≡ false }
+        ensures explains_nothing_yet { result ≡ false }
     {
         Console { explaining: false }
+    }
+
+    // Does what a command orders, and appends the text that answers it. Where the call fails, for want of memory, the
+    // console is as it was.
+    pub fn obey(
+        &mut self,
+        heap: Global,
+        command: Command,
+        out: &mut String,
+    ) -> Result<(), AllocError>
+        ensures explains_as_ordered { self.new ≡ (if is_ok result then explaining_after (order command) self.old else self.old) }
+        ensures answers_as_ordered { OnOk result (string_bytes out.new ≡ string_bytes out.old ++ text_of self.old (order command)) }
+    {
+        match command {
+            Command::Explain { on } => {
+                self.explaining = on;
+                Ok(())
+            }
+            Command::Split { sum, bearers } => {
+                answer_split(heap, self.explaining, sum, bearers.as_slice(), out)
+            }
+        }
     }
 
     // Does what a line tells, and appends the text that answers it. Where the call fails, for want of memory, the
     // console is as it was.
     pub fn tell(&mut self, heap: Global, line: &[u8], out: &mut String) -> Result<(), AllocError>
-        ensures explains_as_told { self.new.explaining ≡ (if is_ok result then explaining_after (reading_of line.now) self.old.explaining else self.old.explaining) }
-        ensures answers_as_defined { OnOk result (string_bytes out.new ≡ string_bytes out.old ++ text_of self.old.explaining (reading_of line.now)) }
+        ensures explains_as_told { self.new ≡ (if is_ok result then explaining_after (reading_of line.now) self.old else self.old) }
+        ensures answers_as_defined { OnOk result (string_bytes out.new ≡ string_bytes out.old ++ text_of self.old (reading_of line.now)) }
     {
-        match read(heap, line)? {
-            Reading::Nothing => Ok(()),
-            Reading::Told(Command::Explain { on }) => {
-                self.explaining = on;
-                Ok(())
-            }
-            Reading::Told(Command::Split { sum, bearers }) => {
-                answer_split(heap, self.explaining, sum, bearers.as_slice(), out)
-            }
-            Reading::BadCommand => out.push_str("bad command\n"),
-            Reading::BadNumber => out.push_str("bad number\n"),
+        match read(heap, line) {
+            Ok(None) => Ok(()),
+            Ok(Some(command)) => self.obey(heap, command, out),
+            Err(ReadError::Memory(error)) => Err(error),
+            Err(error) => writeln!(out, "{error}"),
         }
     }
 }

@@ -5,14 +5,15 @@ mod answer;
 mod bearer;
 mod command;
 mod desk;
+mod error;
 mod numeral;
-mod outcome;
 mod streams;
 mod verb;
 mod word;
 
-pub use command::{Command, Reading, read};
+pub use command::{Command, only, read, read_words};
 pub use desk::Console;
+pub use error::ReadError;
 pub use numeral::number;
-pub use streams::serve;
+pub use streams::{serve, serve_with};
 pub use word::words;

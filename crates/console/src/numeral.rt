@@ -21,8 +21,8 @@ fn with_digit(value: u64, byte: u8, largest: u64) -> Option<u64>
 fn unsigned(word: &[u8]) -> &[u8]
     ensures { result.now ≡ after_plus word.now }
 {
-    match word.split_first() {
-        Some((b'+', digits)) => digits,
+    match word {
+        [b'+', digits @ ..] => digits,
         _ => word,
     }
 }

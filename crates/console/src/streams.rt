@@ -11,35 +11,45 @@ use std::io::{BufRead, BufReader, BufWriter, Write};
 fn without_end(line: &[u8]) -> &[u8]
     ensures { result.now ≡ unended line.now }
 {
-    let len = line.len();
-    if len > 0 && line[len - 1] == b'\n' {
-        &line[0..len - 1]
-    } else {
-        line
+    match line {
+        [told @ .., b'\n'] => told,
+        _ => line,
     }
 }
 
-// Reads commands from standard input, one a line, and answers each on standard output, until the input ends.
-pub fn serve(rt: &HostRuntime) -> io::Result<()> {
+// Reads lines from standard input, has each answered, and writes the answers on standard output, until the input ends.
+// What answers is given a line without its end, and appends the text that answers it.
+pub fn serve_with<F: FnMut(&[u8], &mut String) -> io::Result<()> + Drop>(
+    rt: &HostRuntime,
+    mut answer: F,
+) -> io::Result<()>
+    requires can_always_answer { F.IsAlwaysCallable answer }
+{
     let heap = rt.alloc();
     let mut input = BufReader::new(heap, rt.stdin())?;
     let mut output = BufWriter::new(heap, rt.stdout())?;
-    let mut console = Console::new();
     let mut line = Vec::new(heap);
-    let mut answer = String::new(heap);
+    let mut text = String::new(heap);
     // Nothing says that an input ends, so the lines are counted.
     for _ in 0..u64::MAX {
         if input.read_until(b'\n', &mut line)? == 0 {
             break;
         }
-        console.tell(heap, without_end(line.as_slice()), &mut answer)?;
-        output.write_all(answer.as_bytes())?;
+        answer(without_end(line.as_slice()), &mut text)?;
+        output.write_all(text.as_bytes())?;
         // Where no more input waits, what is answered so far goes out.
         if input.buffer().is_empty() {
             output.flush()?;
         }
         line.clear();
-        answer.clear();
+        text.clear();
     }
     output.flush()
+}
+
+// Reads commands from standard input, one a line, and answers each on standard output, until the input ends.
+pub fn serve(rt: &HostRuntime) -> io::Result<()> {
+    let heap = rt.alloc();
+    let mut console = Console::new();
+    serve_with(rt, |line, out| Ok(console.tell(heap, line, out)?))
 }

@@ -1,6 +1,5 @@
 // The words that commands are told by.
 ghost use Rattle.std.specs.Prelude.{◌≡◌};
-ghost use Rattle.std.specs.Str.{bytes_eq};
 ghost use Rattle.console.specs.Verbs.{verb_of, switch_of};
 
 // What a command does: its first word.
@@ -10,23 +9,14 @@ pub(crate) enum Verb {
     Split,
 }
 
-// Whether a word is the name, letter for letter.
-fn is(word: &[u8], name: &str) -> bool
-    ensures { result ≡ bytes_eq word.now name.now }
-{
-    word == name.as_bytes()
-}
-
-// The verb that a word is.
+// The verb that a word is, letter for letter.
 pub(crate) fn verb_named(word: &[u8]) -> Option<Verb>
     ensures { result ≡ verb_of word.now }
 {
-    if is(word, "explain") {
-        Some(Verb::Explain)
-    } else if is(word, "split") {
-        Some(Verb::Split)
-    } else {
-        None
+    match word {
+        b"explain" => Some(Verb::Explain),
+        b"split" => Some(Verb::Split),
+        _ => None,
     }
 }
 
@@ -34,11 +24,9 @@ pub(crate) fn verb_named(word: &[u8]) -> Option<Verb>
 pub(crate) fn switch(word: &[u8]) -> Option<bool>
     ensures { result ≡ switch_of word.now }
 {
-    if is(word, "on") {
-        Some(true)
-    } else if is(word, "off") {
-        Some(false)
-    } else {
-        None
+    match word {
+        b"on" => Some(true),
+        b"off" => Some(false),
+        _ => None,
     }
 }

@@ -1,6 +1,7 @@
 // The words of a line.
-ghost use Rattle.std.specs.Prelude.{◌≡◌, [], ◌++◌, map, IfOk, vec_items, OnOk};
-ghost use Rattle.console.specs.Words.{blank, ended, words_of};
+ghost use Rattle.std.specs.Prelude.{◌≡◌, ◌==◌, map, position, IfOk, vec_items};
+ghost use Rattle.std.specs.List.{before_first};
+ghost use Rattle.console.specs.Words.{blank, words_of};
 
 use std::alloc::{AllocError, Global};
 
@@ -8,36 +9,34 @@ use std::alloc::{AllocError, Global};
 fn is_blank(byte: u8) -> bool
     ensures { result ≡ blank byte }
 {
-    byte == b' ' || byte == b'\t' || byte == b'\r' || byte == 12
+    matches!(byte, b' ' | b'\t' | b'\r' | b'\x0c')
 }
 
-// Ends the word so far, if it has any bytes: it moves to the words found.
-fn end_word(heap: Global, found: &mut Vec<Vec<u8>>, word: &mut Vec<u8>) -> Result<(), AllocError>
-    ensures found_after { OnOk result (map vec_items found.new.items ≡ map vec_items found.old.items ++ ended word.old.items) }
-    ensures word_after { OnOk result (word.new.items ≡ []) }
+// Where a byte first stands among others, if it does.
+pub(crate) fn place_of(byte: u8, bytes: &[u8]) -> Option<usize>
+    ensures { result ≡ position (λ b. b == byte) bytes.now }
 {
-    if !word.is_empty() {
-        found.push(std::mem::replace(word, Vec::new(heap)))?;
+    bytes.iter().position(|b| *b == byte)
+}
+
+// What stands before the first `#`: all of a line without one.
+fn uncommented(line: &[u8]) -> &[u8]
+    ensures { result.now ≡ before_first (λ b. b == 35) line.now }
+{
+    match place_of(b'#', line) {
+        Some(at) => &line[..at],
+        None => line,
     }
-    Ok(())
 }
 
 // The words of a line: what stands between blanks, up to the first `#`.
 pub fn words(heap: Global, line: &[u8]) -> Result<Vec<Vec<u8>>, AllocError>
     ensures gives_the_words_of_the_line { IfOk result (λ v. map vec_items v.items ≡ words_of line.now) }
 {
+    let parts = uncommented(line).split(|b| is_blank(*b));
     let mut found = Vec::new(heap);
-    let mut word = Vec::new(heap);
-    for b in line {
-        if *b == b'#' {
-            break;
-        }
-        if is_blank(*b) {
-            end_word(heap, &mut found, &mut word)?;
-        } else {
-            word.push(*b)?;
-        }
+    for word in parts.filter(|part| !part.is_empty()) {
+        found.push(Vec::from_slice(heap, word)?)?;
     }
-    end_word(heap, &mut found, &mut word)?;
     Ok(found)
 }

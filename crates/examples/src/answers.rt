@@ -1,5 +1,5 @@
 // Lines that a console is told, and what it answers.
-use console::Console;
+use console::{Console, ReadError, read_words, words};
 use std::alloc::{AllocError, Global};
 use std::test::Fail;
 
@@ -52,5 +52,31 @@ fn answers_whatever_comes(rt: HostRuntime) -> Result<(), Fail> {
     ];
     let text = answers(heap, &lines)?;
     assert_eq!(rt; text.as_str(), "bad command\nbad number\nbad number\n");
+    Ok(())
+}
+
+// Words may be cut and read apart from the console that is to obey them.
+#[test]
+fn obeys_what_the_words_tell(rt: HostRuntime) -> Result<(), Fail> {
+    let heap = rt.alloc();
+    let mut console = Console::new();
+    let mut out = String::new(heap);
+    let found = words(heap, b"split 7 1:1 2:1 # seven dollars")?;
+    let command = read_words(heap, found.as_slice())?.ok_or("no command")?;
+    console.obey(heap, command, &mut out)?;
+    assert_eq!(rt; out.as_str(), "share 1 4\nshare 2 3\n");
+    Ok(())
+}
+
+#[test]
+fn says_why_words_tell_nothing(rt: HostRuntime) -> Result<(), Fail> {
+    let heap = rt.alloc();
+    let found = words(heap, b"split 7 1:1 2:-1")?;
+    assert!(rt;
+        matches!(
+            read_words(heap, found.as_slice()),
+            Err(ReadError::BadNumber)
+        )
+    );
     Ok(())
 }

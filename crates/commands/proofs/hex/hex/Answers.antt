@@ -1,19 +1,30 @@
-use Rattle.std.proofs.Common.{vec_items, arith}
-use Rattle.commands.proofs.Gathering.{one_more, not_one, no_more}
-use Rattle.commands.proofs.Pairing.{pairs_more, pairs_all, odd_word}
+use Rattle.std.proofs.Common.{◌≡◌, Some, vec_items, sym, ap, ◌∙◌, arith, true-eqb, false-eqb}
+use Rattle.std.proofs.lemmas.Result.{err_from_is_err_and}
+use Rattle.console.specs.declared.error.ReadError.TheVariants.{BadNumber}
+use Rattle.console.proofs.Gathering.{following, one_more, not_one, no_more}
+use Rattle.commands.proofs.Pairing.{pairs_more, pairs_all, left_alone}
 use Rattle.commands.proofs.hex.hex.Goals as goal
 
-pub returns-then-word-ne0 : goal.returns-then-word-ne0
-returns-then-word-ne0 c = odd_word c.args.word.now c.if-word-ne0.true
+pub returns-in_err-byte : goal.returns-in_err-byte
+returns-in_err-byte c =
+    let p = err_from_is_err_and c.from_residual.result c.from_residual.ensures.1 in
+    let told = c.in_err-byte.ensures in
+    let fault : c.in_err-byte.field-0.0 ≡ BadNumber = grind arith in
+    rw (p.1, p.2, fault)
+    (not_one (vec_items c.loop-digits.found) _ _ c.loop-digits.invariant _ _ (pairs_more c.loop-digits.digits.now c.in-len2-up.len_at_least) (sym told.ok_part ∙ c.pair.ensures))
 
-pub returns-in_default : goal.returns-in_default
-returns-in_default c =
-    not_one (vec_items c.loop-i.found) _ _ c.loop-i.invariant _ _ (pairs_more c.args.word.now c.loop-i.i (omega arith)) c.in_default.ensures
-
-pub loop-i-preserved : goal.loop-i-preserved
-loop-i-preserved c =
+pub loop-digits-preserved : goal.loop-digits-preserved
+loop-digits-preserved c =
+    let told = c.in_ok-byte.ensures in
+    let one : Some c.in_ok-byte.byte ≡ c.pair.result = grind arith in
     simp c.in_ok-push.ensures.items
-    (one_more (vec_items c.loop-i.found) _ _ c.loop-i.invariant c.in-Some.byte _ _ (pairs_more c.args.word.now c.loop-i.i (omega arith)) c.in-Some.ensures)
+    (one_more (vec_items c.loop-digits.found) _ _ c.loop-digits.invariant c.in_ok-byte.byte _ _ (pairs_more c.loop-digits.digits.now c.in-len2-up.len_at_least) (one ∙ c.pair.ensures))
 
-pub returns : goal.returns
-returns c = no_more (vec_items c.loop-i.found) _ _ c.loop-i.invariant (pairs_all c.args.word.now c.loop-i.i (omega arith))
+pub returns-then-is_empty : goal.returns-then-is_empty
+returns-then-is_empty c =
+    no_more (vec_items c.loop-digits.found) _ _ c.loop-digits.invariant (pairs_all c.loop-digits.digits.now (true-eqb _ 0 c.if-is_empty.ensures))
+
+pub returns-else-is_empty : goal.returns-else-is_empty
+returns-else-is_empty c =
+    sym (ap (following (vec_items c.loop-digits.found)) (left_alone c.loop-digits.digits.now c.in_default.len_below (false-eqb _ 0 c.if-is_empty.ensures)))
+    ∙ c.loop-digits.invariant

@@ -1,6 +1,6 @@
 use Rattle.std.proofs.Common.{◌≡◌, map, drop, vec_items}
 use Rattle.console.specs.Bearers.{bearers_of}
-use Rattle.console.proofs.Bearing.{following}
+use Rattle.console.proofs.Gathering.{following}
 use Rattle.console.proofs.bearer.bearers.Given as goal
 
 -- The bearers found, followed by those of the words that are left, are the bearers of all the words.

@@ -1,8 +1,6 @@
-use Rattle.std.proofs.Common.{◌≡◌, ◌++◌, map, drop, vec_items}
-use Rattle.console.specs.Words.{words_after, words_of}
+use Rattle.std.proofs.Common.{◌≡◌, map, vec_items}
 use Rattle.console.proofs.word.words.Given as goal
 
--- The words found, and those of what is left after the word so far, are the words of the line.
-abbrev pub invariant-loop-b : goal.invariant-loop-b
-invariant-loop-b l =
-    map vec_items (vec_items l.found) ++ words_after (vec_items l.word) (drop l.b-index l.line) ≡ words_of l.line
+-- The words found are the parts so far.
+abbrev pub invariant-loop-word : goal.invariant-loop-word
+invariant-loop-word l = map vec_items (vec_items l.found) ≡ map (λ part. part.now) l.yielded
