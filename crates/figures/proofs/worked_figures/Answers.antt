@@ -1,11 +1,11 @@
 use Rattle.std.proofs.Common.{refl}
-use Rattle.split.specs.Refusals.{answer}
+use Rattle.split.specs.Refusals.{shares_code, answer}
 use Rattle.split.specs.Shares.{all_weights, rank, odd_dollars, share}
 use Rattle.figures.proofs.worked_figures.Goals as goal
 
 -- each figure is what the definitions compute to
 pub returns : goal.returns
-unfolding answer all_weights rank odd_dollars share
+unfolding shares_code answer all_weights rank odd_dollars share
 returns c = record {
   definitions_give_the_worked_figures = record {
     hundred_accepted = refl;
