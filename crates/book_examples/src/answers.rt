@@ -3,7 +3,8 @@ use book_console::Console;
 use std::alloc::{AllocError, Global};
 use std::test::Fail;
 
-// What a new console answers to the lines.
+// What a new console answers to the lines. The console that splits is told a line in one call, this one in two, so that a
+// common part of both examples would have nothing but the loop.
 fn answers(heap: Global, lines: &[&[u8]]) -> Result<String, AllocError> {
     let mut console = Console::new();
     let mut out = String::new(heap);

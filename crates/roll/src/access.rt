@@ -24,7 +24,7 @@ impl Roll {
         }
     }
 
-    // Its participants, in order.
+    // Its participants, in order. One method for each kind of record: it says which table it shows, and no more.
     pub fn participants(&self) -> &[Participant]
         ensures are_its_participants { result.now ≡ (standing self.now).participants }
         ensures at_most_64 { length result.now ≤ 64 }

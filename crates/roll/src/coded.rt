@@ -13,6 +13,7 @@ pub trait Coded {
         ensures is_its_code { result ≡ called self.now };
 }
 
+// A code is a field of either kind: an impl of a line each is plainer than a common part of both.
 impl Coded for Participant {
     ghost called = { λ p. p.code };
 
@@ -29,7 +30,7 @@ impl Coded for Account {
     }
 }
 
-// How many of the row have this code.
+// How many of the row have this code. The splitting counts its bearers by a trait of its own, which a record need not have.
 pub fn with_code<C: Coded>(code: u32, row: &[C]) -> usize
     ensures counts_those_with_the_code { result ≡ count_by (λ x. nat_eq (C.called x) code) row.now }
 {

@@ -9,6 +9,7 @@ pub fn fill<S, T: Copy, F: Fn(&S) -> T>(row: &[S], places: &mut [T], make: F)
     ensures writes_what_is_made { (g : S → T) → GivesOfEach F.Fn make g → places.new ≡ map g (take (length places.old) row.now) ++ drop (length row.now) places.old }
 {
     let within = &row[..row.len().min(places.len())];
+    // By number: of what is written through an iterator over the places, a proof knows nothing.
     for (i, item) in within.iter().enumerate() {
         places[i] = make(item);
     }

@@ -38,6 +38,7 @@ impl<T: Copy, const N: usize> Table<T, N> {
     {
         let mut places = [blank; N];
         let within = count.min(N);
+        // By number: of what is written through an iterator over the places, a proof knows nothing.
         for i in 0..within {
             places[i] = make(i);
         }

@@ -13,7 +13,8 @@ pub enum Refusal {
 }
 
 impl Refusal {
-    // The number by which the refusal is told.
+    // The number by which the refusal is told: a line for each, as the rules list them. A discriminant would be told by a cast,
+    // which says nothing of the rules.
     pub fn number(self) -> u8
         ensures is_the_listed_number { result ≡ number_of self }
     {
