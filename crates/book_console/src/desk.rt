@@ -28,15 +28,15 @@ pub struct Console {
     book: Option<Book<Commitment>>,
 }
 
-// What a console is to a contract: what it keeps, of its book what the book's contracts say of it.
+// A contract sees a console as what it keeps.
 impl Model for Console {
-    ghost use Rattle.std.specs.Option.{option_map};
-    ghost use Rattle.book.specs.Model.{model};
     ghost use Rattle.book_console.specs.Desk.{Desk};
 
     ghost Value = { Desk };
 
-    ghost view = { λ console. record { explaining = console.splits; basis = console.basis; places = console.places; book = option_map model console.book } };
+    ghost use Rattle.book_console.specs.Views.{desk_of};
+
+    ghost view = { desk_of };
 }
 
 impl Console {
