@@ -1,7 +1,8 @@
 // The console: it takes the lines one after another.
 ghost use Rattle.std.specs.Prelude.{◌≡◌, ◌++◌, is_ok, IsErr, if◌then◌else◌, vec_items, string_bytes, OnOk};
 ghost use Rattle.std.specs.Option.{option_map};
-ghost use Rattle.commands.specs.Meanings.{order as order_of, meaning, read_as, OutOfMemory, Tells};
+ghost use Rattle.console.specs.Readings.{Tells};
+ghost use Rattle.commands.specs.Meanings.{order as order_of, meaning, read_as, OutOfMemory, Fails};
 ghost use Rattle.commands.specs.Readings.{reading_of};
 ghost use Rattle.book_console.specs.Answers.{opening_text, funds_text, order_text, text_of};
 ghost use Rattle.book_console.specs.Desk.{starting, has_book, kept_open, kept_by, kept_after};
@@ -27,15 +28,15 @@ pub struct Console {
     book: Option<Book<Commitment>>,
 }
 
-// What a console is to a contract: what it keeps, of its book what the book's contracts say of it.
+// A contract sees a console as what it keeps.
 impl Model for Console {
-    ghost use Rattle.std.specs.Option.{option_map};
-    ghost use Rattle.book.specs.Model.{model};
     ghost use Rattle.book_console.specs.Desk.{Desk};
 
     ghost Value = { Desk };
 
-    ghost view = { λ console. record { explaining = console.splits; basis = console.basis; places = console.places; book = option_map model console.book } };
+    ghost use Rattle.book_console.specs.Views.{desk_of};
+
+    ghost view = { desk_of };
 }
 
 impl Console {
@@ -60,7 +61,7 @@ impl Console {
 
     // What a line tells, given whether there is a book: nothing where it has no words, else a command.
     pub fn read(&self, heap: Global, line: &[u8]) -> Result<Option<Command>, ReadError>
-        ensures means_what_the_line_tells { Tells meaning result (reading_of (has_book self.now) line.now) }
+        ensures means_what_the_line_tells { Tells meaning Fails result (reading_of (has_book self.now) line.now) }
     {
         commands::read(heap, self.has_book(), line)
     }

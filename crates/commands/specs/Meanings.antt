@@ -1,5 +1,5 @@
 -- What a line may tell, and what an answer of `read` means. Assumes nothing.
-use Rattle.std.specs.Prelude.{◌≡◌, ℕ, Bool, List, vec_items, Some, None, Ok, Err, Option, Result, MatchResult}
+use Rattle.std.specs.Prelude.{◌≡◌, ℕ, Bool, List, vec_items, Some, None, Ok, Err, Option, Result}
 use Rattle.split.specs.declared.bearer.Stake.{Stake}
 use Rattle.console.specs.declared.command.Command as split
 use Rattle.console.specs.declared.command.Command.TheVariants as split_command
@@ -76,13 +76,9 @@ abbrev pub OutOfMemory : Result (Option Command) ReadError → Type 0
 OutOfMemory (Err (Line (Memory error))) = Unit {0}
 OutOfMemory _ = ⊥
 
--- What is known of a line's meaning where reading it failed: which fault the line has, unless memory ran out.
+-- What is known of a line's meaning where nothing was read: which fault the line has, unless memory ran out.
 abbrev pub Fails : ReadError → Meaning → Type 0
 Fails (Line (Memory error)) m = Unit {0}
 Fails (Line BadCommand) m = bad_command ≡ m
 Fails (Line BadNumber) m = bad_number ≡ m
 Fails NoBook m = no_book ≡ m
-
--- What was read means just what the line tells, unless memory ran out.
-abbrev pub Tells : {X : Type 0} → (X → Meaning) → Result X ReadError → Meaning → Type 0
-Tells means read m = MatchResult read (λ x. means x ≡ m) (λ error. Fails error m)

@@ -1,6 +1,6 @@
 // Bytes told by pairs of hexadecimal digits.
 ghost use Rattle.std.specs.Prelude.{◌≡◌, vec_items};
-ghost use Rattle.console.specs.Readings.{Counts};
+ghost use Rattle.console.specs.Readings.{Tells, NotCounted};
 ghost use Rattle.commands.specs.Hex.{digit_value, byte_of, bytes_of};
 
 use console::ReadError;
@@ -29,7 +29,7 @@ fn pair(first: u8, second: u8) -> Option<u8>
 
 // The bytes that a word is, a pair of digits each.
 pub(crate) fn hex(heap: Global, word: &[u8]) -> Result<Vec<u8>, ReadError>
-    ensures { Counts vec_items result (bytes_of word.now) }
+    ensures { Tells (λ found. Some (vec_items found)) NotCounted result (bytes_of word.now) }
 {
     let mut found = Vec::new(heap);
     let mut digits = word;

@@ -1,6 +1,7 @@
 // Reading of a line.
 ghost use Rattle.std.specs.Prelude.{◌≡◌, map, vec_items};
-ghost use Rattle.commands.specs.Meanings.{ordered, meaning, Tells};
+ghost use Rattle.console.specs.Readings.{Tells};
+ghost use Rattle.commands.specs.Meanings.{ordered, meaning, Fails};
 ghost use Rattle.commands.specs.Readings.{commanded, basis_told, journal_told, image_told, roll_told, funds_told, told, reading_of};
 
 use crate::command::Command;
@@ -16,7 +17,7 @@ const MOST_PLACES: u64 = 1_000_000;
 
 // `basis NAME`.
 fn read_basis(arguments: &[Vec<u8>]) -> Result<Command, ReadError>
-    ensures { Tells ordered result (basis_told (map vec_items arguments.now)) }
+    ensures { Tells ordered Fails result (basis_told (map vec_items arguments.now)) }
 {
     let word = only(arguments).ok_or(BadCommand)?;
     let name = basis_named(word).ok_or(BadCommand)?;
@@ -25,7 +26,7 @@ fn read_basis(arguments: &[Vec<u8>]) -> Result<Command, ReadError>
 
 // `journal N`.
 fn read_journal(arguments: &[Vec<u8>]) -> Result<Command, ReadError>
-    ensures { Tells ordered result (journal_told (map vec_items arguments.now)) }
+    ensures { Tells ordered Fails result (journal_told (map vec_items arguments.now)) }
 {
     let word = only(arguments).ok_or(BadCommand)?;
     let places = number(word, MOST_PLACES).ok_or(BadNumber)?;
@@ -36,7 +37,7 @@ fn read_journal(arguments: &[Vec<u8>]) -> Result<Command, ReadError>
 
 // `image HEX`.
 fn read_image(heap: Global, arguments: &[Vec<u8>]) -> Result<Command, ReadError>
-    ensures { Tells ordered result (image_told (map vec_items arguments.now)) }
+    ensures { Tells ordered Fails result (image_told (map vec_items arguments.now)) }
 {
     let word = only(arguments).ok_or(BadCommand)?;
     let bytes = hex(heap, word)?;
@@ -45,7 +46,7 @@ fn read_image(heap: Global, arguments: &[Vec<u8>]) -> Result<Command, ReadError>
 
 // `roll PATH`.
 fn read_roll(heap: Global, arguments: &[Vec<u8>]) -> Result<Command, ReadError>
-    ensures { Tells ordered result (roll_told (map vec_items arguments.now)) }
+    ensures { Tells ordered Fails result (roll_told (map vec_items arguments.now)) }
 {
     let word = only(arguments).ok_or(BadCommand)?;
     let path = Vec::from_slice(heap, word)?;
@@ -54,7 +55,7 @@ fn read_roll(heap: Global, arguments: &[Vec<u8>]) -> Result<Command, ReadError>
 
 // `funds`.
 fn read_funds(has_book: bool, arguments: &[Vec<u8>]) -> Result<Command, ReadError>
-    ensures { Tells ordered result (funds_told has_book (map vec_items arguments.now)) }
+    ensures { Tells ordered Fails result (funds_told has_book (map vec_items arguments.now)) }
 {
     if !arguments.is_empty() {
         return Err(ReadError::Line(BadCommand));
@@ -72,7 +73,7 @@ fn read_verb(
     verb: Verb,
     arguments: &[Vec<u8>],
 ) -> Result<Command, ReadError>
-    ensures { Tells ordered result (commanded has_book verb (map vec_items arguments.now)) }
+    ensures { Tells ordered Fails result (commanded has_book verb (map vec_items arguments.now)) }
 {
     match verb {
         Verb::Basis => read_basis(arguments),
@@ -85,7 +86,7 @@ fn read_verb(
 
 // What the words of a line tell. What is not about books, the console that splits reads.
 fn read_words(heap: Global, has_book: bool, words: &[Vec<u8>]) -> Result<Option<Command>, ReadError>
-    ensures { Tells meaning result (told has_book (map vec_items words.now)) }
+    ensures { Tells meaning Fails result (told has_book (map vec_items words.now)) }
 {
     let Some((first, arguments)) = words.split_first() else {
         return Ok(None);
@@ -98,7 +99,7 @@ fn read_words(heap: Global, has_book: bool, words: &[Vec<u8>]) -> Result<Option<
 
 // What a line tells, where a book is there or not: nothing where it has no words, else a command.
 pub fn read(heap: Global, has_book: bool, line: &[u8]) -> Result<Option<Command>, ReadError>
-    ensures means_what_the_line_tells { Tells meaning result (reading_of has_book line.now) }
+    ensures means_what_the_line_tells { Tells meaning Fails result (reading_of has_book line.now) }
 {
     let found = words(heap, line)?;
     read_words(heap, has_book, found.as_slice())

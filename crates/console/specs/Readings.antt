@@ -30,24 +30,21 @@ abbrev pub meaning : Option Command → Meaning
 meaning None = nothing
 meaning (Some told) = order told
 
--- What is known of a line's meaning where reading it failed: which fault the line has, unless memory ran out.
+-- What was read means m, and where nothing was read, what is known of m then holds.
+abbrev pub Tells : {X E M : Type 0} → (X → M) → (E → M → Type 0) → Result X E → M → Type 0
+Tells means fails read m = MatchResult read (λ x. means x ≡ m) (λ error. fails error m)
+
+-- What is known of a line's meaning where nothing was read: which fault the line has, unless memory ran out.
 abbrev pub Fails : ReadError → Meaning → Type 0
 Fails (Memory error) m = Unit {0}
 Fails BadCommand m = bad_command ≡ m
 Fails BadNumber m = bad_number ≡ m
 
--- What was read means just what the line tells, unless memory ran out.
-abbrev pub Tells : {X : Type 0} → (X → Meaning) → Result X ReadError → Meaning → Type 0
-Tells means read m = MatchResult read (λ x. means x ≡ m) (λ error. Fails error m)
-
--- The same of a part of a line that has to be a number, or a row of numbers: the only fault is that it is none.
+-- The same of a part of a line that has to be a number, or a row of them: that it is none, unless memory ran out.
 abbrev pub NotCounted : {X : Type 0} → ReadError → Option X → Type 0
 NotCounted (Memory error) value = Unit {0}
 NotCounted BadCommand value = ⊥
 NotCounted BadNumber value = None ≡ value
-
-abbrev pub Counts : {X Y : Type 0} → (X → Y) → Result X ReadError → Option Y → Type 0
-Counts holds read value = MatchResult read (λ x. Some (holds x) ≡ value) (λ error. NotCounted error value)
 
 -- A command that takes just one word.
 abbrev pub only : List (List ℕ) → Option (List ℕ)

@@ -1,7 +1,7 @@
 // Bearers as they are told: CODE:WEIGHT.
 ghost use Rattle.std.specs.Prelude.{◌≡◌, map, vec_items};
 ghost use Rattle.console.specs.Bearers.{bearer_of, bearers_of};
-ghost use Rattle.console.specs.Readings.{Counts};
+ghost use Rattle.console.specs.Readings.{Tells, NotCounted};
 
 use crate::error::ReadError;
 use crate::numeral::number;
@@ -24,7 +24,7 @@ fn bearer(word: &[u8]) -> Option<Stake>
 
 // The bearers that words are, in their order. No word may be no bearer.
 pub(crate) fn bearers(heap: Global, words: &[Vec<u8>]) -> Result<Vec<Stake>, ReadError>
-    ensures { Counts vec_items result (bearers_of (map vec_items words.now)) }
+    ensures { Tells (λ found. Some (vec_items found)) NotCounted result (bearers_of (map vec_items words.now)) }
 {
     let mut found = Vec::new(heap);
     for word in words {

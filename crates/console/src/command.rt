@@ -1,7 +1,7 @@
 // What a line tells.
 ghost use Rattle.std.specs.Prelude.{◌≡◌, map, vec_items};
 ghost use Rattle.std.specs.Option.{option_map};
-ghost use Rattle.console.specs.Readings.{order, meaning, Tells, only as the_only, explain_told, split_told, told, reading_of};
+ghost use Rattle.console.specs.Readings.{order, meaning, Tells, Fails, only as the_only, explain_told, split_told, told, reading_of};
 
 use crate::bearer::bearers;
 use crate::error::ReadError;
@@ -32,7 +32,7 @@ pub fn only(words: &[Vec<u8>]) -> Option<&[u8]>
 
 // `explain on` and `explain off`.
 fn read_explain(arguments: &[Vec<u8>]) -> Result<Command, ReadError>
-    ensures { Tells order result (explain_told (map vec_items arguments.now)) }
+    ensures { Tells order Fails result (explain_told (map vec_items arguments.now)) }
 {
     let word = only(arguments).ok_or(ReadError::BadCommand)?;
     let on = switch(word).ok_or(ReadError::BadCommand)?;
@@ -41,7 +41,7 @@ fn read_explain(arguments: &[Vec<u8>]) -> Result<Command, ReadError>
 
 // `split SUM CODE:WEIGHT ..`.
 fn read_split(heap: Global, arguments: &[Vec<u8>]) -> Result<Command, ReadError>
-    ensures { Tells order result (split_told (map vec_items arguments.now)) }
+    ensures { Tells order Fails result (split_told (map vec_items arguments.now)) }
 {
     let (first, rest) = arguments.split_first().ok_or(ReadError::BadCommand)?;
     let sum = number(first.as_slice(), u64::MAX).ok_or(ReadError::BadNumber)?;
@@ -51,7 +51,7 @@ fn read_split(heap: Global, arguments: &[Vec<u8>]) -> Result<Command, ReadError>
 
 // What the words of a line tell: nothing where there are none, else a command.
 pub fn read_words(heap: Global, words: &[Vec<u8>]) -> Result<Option<Command>, ReadError>
-    ensures means_what_the_words_tell { Tells meaning result (told (map vec_items words.now)) }
+    ensures means_what_the_words_tell { Tells meaning Fails result (told (map vec_items words.now)) }
 {
     let Some((first, arguments)) = words.split_first() else {
         return Ok(None);
@@ -66,7 +66,7 @@ pub fn read_words(heap: Global, words: &[Vec<u8>]) -> Result<Option<Command>, Re
 
 // What a line tells: nothing where it has no words, else a command.
 pub fn read(heap: Global, line: &[u8]) -> Result<Option<Command>, ReadError>
-    ensures means_what_the_line_tells { Tells meaning result (reading_of line.now) }
+    ensures means_what_the_line_tells { Tells meaning Fails result (reading_of line.now) }
 {
     let found = words(heap, line)?;
     read_words(heap, found.as_slice())

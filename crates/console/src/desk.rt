@@ -15,7 +15,7 @@ pub struct Console {
     explaining: bool,
 }
 
-// What a console is to a contract: whether explanations are printed.
+// A contract sees a console as whether explanations are printed.
 impl Model for Console {
     ghost Value = { Bool };
 
