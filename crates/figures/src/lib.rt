@@ -4,8 +4,6 @@
 ghost use Rattle.figures.specs.Figures.{WorkedFigures};
 
 // Carries the theorem: the definitions give every worked figure.
-pub fn worked_figures() -> u8
+pub fn worked_figures()
     ensures definitions_give_the_worked_figures { WorkedFigures }
-{
-    0
-}
+{}

@@ -1,11 +1,11 @@
 -- Sums and counts over a row, one element more at a time, and rows that are filled place by place. Assumes nothing.
-use Rattle.std.proofs.Common.{◌≡◌, ℕ, ◌+◌, ◌<◌, ◌≤◌, min, Bool, true, false, cond, List, [], ◌∷◌, ◌++◌, map, length, get_or, take, drop, set, fold, sum_by, count_by, sym, refl, ap, ◌∙◌, ⊎_elim, arith}
+use Rattle.std.proofs.Common.{◌≡◌, ℕ, ◌+◌, ◌<◌, ◌≤◌, min, Bool, true, false, cond, List, [], ◌∷◌, ◌++◌, map, length, get_or, take, drop, set, fold, sum_by, sym, refl, ap, ◌∙◌, ⊎_elim, arith}
 use mir.Val.{bool_byte}
-use Rattle.std.specs.List.{range_with_len}
+use Rattle.std.specs.List.{range_with_len, ContainsAt as Has}
 use Rattle.std.proofs.lemmas.List.FromFn.{length-range_with_len, get_or-range_with_len}
-use Rattle.std.proofs.lemmas.List.{map_more, take_all, take_at, drop_more, drop_all, length-map, length-take-le, set_at, append_assoc}
+use Rattle.std.proofs.lemmas.List.{map_more, take_all, take_at, drop_more, drop_all, length-map, length-take-le, length-take, get_or-take, set_at, append_assoc}
 use Rattle.std.proofs.lemmas.Bool.{cases_lt}
-use Rattle.std.proofs.lemmas.List.Sums.{sum_by_more, sum_by-take-le}
+use Rattle.std.proofs.lemmas.List.Sums.{sum_by_more}
 
 -- a sum over what a function gives of each element
 pub sum_by-map : {X Y : Type 0} (f : Y → ℕ) (g : X → Y) (xs : List X) → sum_by f (map g xs) ≡ sum_by (λ x. f (g x)) xs
@@ -25,13 +25,6 @@ module _ {X : Type 0} (f : X → ℕ) (xs : List X) where
       let at : f x ≡ f (get_or xs i x) = ap f read in
       omega (arith, so, is, at, sum_by_more f xs i x within)
 
-  -- so far it is at most the whole sum
-  pub added_within : (i n m : ℕ) (x : X) → i < length xs → x ≡ get_or xs i x → Added f xs i n → m ≡ f x → n + m ≤ sum_by f xs
-  added_within i n m x within read so is = omega (arith, added_more i n m x within read so is, sum_by-take-le f xs (i + 1))
-
-  pub added_all : (i n : ℕ) → length xs ≤ i → Added f xs i n → n ≡ sum_by f xs
-  added_all i n past so = so ∙ ap (sum_by f) (take_all i xs past)
-
 -- how a loop stands that counts the elements which pass a test: n of the first i do
 abbrev pub Counted : {X : Type 0} → (X → Bool) → List X → ℕ → ℕ → Type 0
 Counted p xs i n = (n ≤ i) × Added (λ x. cond (p x) 1 0) xs i n
@@ -50,9 +43,6 @@ module _ {X : Type 0} (p : X → Bool) (xs : List X) where
       let is : m ≡ cond (p x) 1 0 = bit ∙ bit_is b ∙ ap (λ t. cond t 1 0) test in
       let few = bit_small (p x) in
       (omega (arith, is, so.0), added_more (λ y. cond (p y) 1 0) xs i n m x within read so.1 is)
-
-  pub counted_all : (i n : ℕ) → length xs ≤ i → Counted p xs i n → n ≡ count_by p xs
-  counted_all i n past so = added_all (λ x. cond (p x) 1 0) xs i n past so.1
 
 -- how a loop stands that writes f x for each element x: the first i places are written, the others are as they were
 abbrev pub filled : {X Y : Type 0} → (X → Y) → List X → List Y → ℕ → List Y
@@ -98,6 +88,12 @@ as_far_as_both f xs old n is =
     ∙ ap (λ k. map f (take (length old) xs) ++ drop k old) (length-take-le (length old) xs ge)
     ∙ ap (λ l. map f (take (length old) xs) ++ l) (drop_all (length old) old (omega arith) ∙ sym (drop_all (length xs) old ge)))
     (cases_lt (length xs) (length old))
+
+-- what is among the first of a row is in the row
+pub taken_held : {X : Type 0} (n : ℕ) (xs : List X) (x : X) → Has (take n xs) x → Has xs x
+taken_held n xs x h =
+    let long = length-take n xs in
+    (h.0, omega (arith, h.1, long), λ d. sym (get_or-take n xs h.0 d (omega (arith, h.1, long))) ∙ h.2 d)
 
 -- where there is room for the whole row, all of it is written
 pub all_written : {X Y : Type 0} (f : X → Y) (xs : List X) (old : List Y) → length xs ≤ length old → map f (take (length old) xs) ++ drop (length xs) old ≡ map f xs ++ drop (length xs) old

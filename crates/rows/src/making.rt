@@ -20,7 +20,7 @@ impl<T: Copy, const N: usize> Table<T, N> {
 
     // What `make` gives of each item of a row, in order, as far as there are places; the blank stands in the spare ones.
     pub fn from_row<S, F: Fn(&S) -> T>(row: &[S], blank: T, make: F) -> Table<T, N>
-        requires takes_each_item { TakesEach F.Fn make row.now }
+        requires takes_each_item { TakesEach F.Fn make (take N row.now) }
         ensures holds_what_is_made { (g : S → T) → GivesOfEach F.Fn make g → records result ≡ map g (take N row.now) }
     {
         let mut places = [blank; N];
@@ -33,7 +33,7 @@ impl<T: Copy, const N: usize> Table<T, N> {
 
     // What `make` gives of the numbers from 0 on, so many of them, as far as there are places.
     pub fn tabulate<F: Fn(usize) -> T>(count: usize, blank: T, make: F) -> Table<T, N>
-        requires takes_each_number { (i : ℕ) → i < count → F.pre make i }
+        requires takes_each_number { (i : ℕ) → i < min count N → F.pre make i }
         ensures holds_what_is_made { (g : ℕ → T) → GivesOfNumbers F.Fn make g → records result ≡ map g (range_with_len 0 (min count N)) }
     {
         let mut places = [blank; N];

@@ -21,7 +21,7 @@ pub struct Division {
 }
 
 impl Division {
-    // What stands in a table's place before a division is written there.
+    // What stands in a table's place before a division is written there. A Default beside it would be a second blank.
     pub const BLANK: Division = Division {
         code: 0,
         weight: 0,

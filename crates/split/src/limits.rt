@@ -24,7 +24,7 @@ fn heavy<B: Bearer>(bearers: &[B]) -> usize
         .count()
 }
 
-// How many bearers have this code.
+// How many bearers have this code. The roll counts its records by a trait of its own, which a bearer need not have.
 fn bearing<B: Bearer>(code: u32, bearers: &[B]) -> usize
     ensures { result ≡ with_code code (map B.bears bearers.now) }
 {

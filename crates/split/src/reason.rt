@@ -1,6 +1,5 @@
 // Why a bearer gets its share: every number that the rule looks at.
-ghost use Rattle.std.specs.Prelude.{◌≡◌, ◌≤◌, ◌++◌, map, length, drop};
-ghost use Rattle.std.specs.List.{AllByRecursion};
+ghost use Rattle.std.specs.Prelude.{◌≡◌, ◌≤◌};
 ghost use Rattle.split.specs.Reasons.{reckon};
 
 use crate::division::Division;
@@ -23,7 +22,7 @@ pub struct Reason {
 }
 
 impl Reason {
-    // What stands in a table's place before a reason is written there.
+    // What stands in a table's place before a reason is written there. A Default beside it would be a second blank.
     pub const BLANK: Reason = Reason {
         division: Division::BLANK,
         total: 0,

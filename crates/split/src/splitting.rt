@@ -1,9 +1,9 @@
 // The splitting itself: shares, or the reasons for them, written into lent places.
-ghost use Rattle.std.specs.Prelude.{◌≡◌, ◌≤◌, ◌++◌, map, length, drop, sum_by, OnOk};
+ghost use Rattle.std.specs.Prelude.{◌≡◌, map, length, OnOk};
 ghost use Rattle.split.specs.Laws.{FairShares, SameInAnyOrder};
-ghost use Rattle.split.specs.Reasons.{reckon, reasons as reasons_of};
+ghost use Rattle.split.specs.Reasons.{reasons as reasons_of};
 ghost use Rattle.split.specs.Refusals.{answer, placed};
-ghost use Rattle.split.specs.Shares.{odd_dollars, shares as shares_of};
+ghost use Rattle.split.specs.Shares.{shares as shares_of};
 
 use crate::bearer::Bearer;
 use crate::division::{divide_all, whole_parts};

@@ -4,10 +4,11 @@ use Rattle.split.specs.declared.division.Division.{Division}
 use Rattle.split.specs.Shares.{divide}
 use Rattle.split.proofs.Accepting.{light_bearer}
 use mathlib.Core.List.{map-map}
+use Rattle.rows.proofs.Rows.{taken_held}
 use Rattle.split.proofs.division.divide_all.Goals as goal
 
 pub from_row-requires : goal.from_row-requires
-from_row-requires g c = (omega arith, λ b in' l p q s t k o. (c.requires.small, light_bearer g.B.Bearer.bears c.args.bearers.now c.requires.light b.now in'))
+from_row-requires g c = (omega arith, λ b in' l p q s t k o. (c.requires.small, light_bearer g.B.Bearer.bears c.args.bearers.now c.requires.light b.now (taken_held 128 c.args.bearers.now b.now in')))
 
 pub returns : goal.returns
 returns g c =

@@ -1,5 +1,6 @@
 use Rattle.std.proofs.Common.{◌-◌, ◌≤◌, map, length, sym, ap, ◌∙◌, arith, rules}
 use Rattle.std.proofs.ByRecursion.{all-has}
+use Rattle.rows.proofs.Rows.{taken_held}
 use Rattle.split.specs.declared.division.Division.{Division}
 use Rattle.split.specs.Reasons.{reckon}
 use Rattle.split.specs.Shares.{odd_dollars}
@@ -14,7 +15,7 @@ fill-requires g c =
     let ok = accepted c.args.sum (length c.args.reasons.now) stakes (sym c.in_ok-total.ensures.answers) in
     let within = row_within c.args.sum c.in_ok-total.total stakes row c.in_ok-total.ensures.weighs (c.as_slice-row.ensures.are_its_records ∙ c.divide_all-divisions.ensures) in
     let small = wholes_small row 1000000000 (omega (arith, ok.small, within)) in
-    record { takes_each_item = λ d in' l p q s t k o u v. all-has (λ (x : Division). x.whole ≤ 1000000000) row d.now small in' }
+    record { takes_each_item = λ d in' l p q s t k o u v. all-has (λ (x : Division). x.whole ≤ 1000000000) row d.now small (taken_held (length c.args.reasons.now) row d.now in') }
 
 pub returns-clause-places_as_defined : goal.returns-clause-places_as_defined
 unfolding odd_dollars
