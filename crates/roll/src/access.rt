@@ -52,11 +52,7 @@ impl Roll {
     pub fn mark(&mut self, place: usize)
         ensures marks_just_that_participant { standing self.new ≡ marked_at place (standing self.old) }
     {
-        if let Some(participant) = self.participants().get(place) {
-            let mut marked = *participant;
-            marked.mark();
-            self.participants.set(place, marked);
-        }
+        self.participants.change(place, Participant::mark);
     }
 
     // What the accounts of the participant with this code hold together, both columns counted.

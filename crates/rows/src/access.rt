@@ -1,5 +1,6 @@
 // Looking at the records of a table, and writing over them.
-ghost use Rattle.std.specs.Prelude.{◌≡◌, ◌<◌, ◌≤◌, [], ◌∷◌, ◌++◌, length, slice_set};
+ghost use Rattle.std.specs.Prelude.{◌≡◌, ◌<◌, ◌≤◌, [], ◌∷◌, ◌++◌, length, slice_index_or, slice_set};
+ghost use Rattle.rows.specs.Filling.{ChangesBy};
 ghost use Rattle.rows.specs.Tables.{records};
 
 use crate::table::Table;
@@ -22,12 +23,13 @@ impl<T: Copy, const N: usize> Table<T, N> {
         self.count += 1;
     }
 
-    // Writes a value over the one at a place. A place beyond the records changes nothing.
-    pub fn set(&mut self, place: usize, value: T)
-        ensures changes_just_that_record { records self.new ≡ slice_set (records self.old) place value }
+    // Has a rule change the record at a place. A place beyond the records changes nothing.
+    pub fn change<F: FnOnce(&mut T) + Drop>(&mut self, place: usize, rule: F)
+        requires can_always_change { F.IsAlwaysCallable rule }
+        ensures changes_just_that_record { (g : T → T) (d : T) → ChangesBy F.FnOnce rule g → records self.new ≡ slice_set (records self.old) place (g (slice_index_or (records self.old) place d)) }
     {
         if place < self.count {
-            self.places[place] = value;
+            rule(&mut self.places[place]);
         }
     }
 }
