@@ -5,3 +5,5 @@
 mod answers;
 #[cfg(test)]
 mod splits;
+#[cfg(test)]
+mod tables;
