@@ -22,6 +22,7 @@ pub struct Book<B: Basis> {
     pub(crate) owed: [u64; MOST_PARTICIPANTS],
     // what each account has lost and not got back
     pub(crate) outstanding: [Outstanding; MOST_ACCOUNTS],
+    // how many declarations there are: each row of `outstanding` has its places for eight, since there is no heap
     pub(crate) declarations: usize,
     pub(crate) termination: Termination,
     // how many entries are numbered, and how many lines of the journal are used
