@@ -9,7 +9,7 @@ ghost use Rattle.rows.specs.Tables.{records};
 
 use crate::fault::ImageFault;
 use crate::record::{AccountRecord, ParticipantRecord};
-use crate::stored::Stored;
+use crate::stored::{Stored, Wide};
 use crate::tables::{Image, MOST_ACCOUNTS, MOST_PARTICIPANTS};
 use rows::Table;
 

@@ -1,7 +1,7 @@
 // The records of an image, as they are written there.
 ghost use Rattle.image.specs.Layout.{participant_at, account_at};
 
-use crate::stored::Stored;
+use crate::stored::{Stored, Wide};
 
 #[derive(Clone, Copy, Debug, PartialEq, Eq)]
 pub struct ParticipantRecord {
@@ -23,16 +23,15 @@ impl ParticipantRecord {
         adjusted: 0,
         scope: 0,
     };
+}
 
-    // The bytes that one has.
-    pub const WIDTH: usize = 21;
+impl Wide for ParticipantRecord {
+    ghost WIDTH = { 21 };
+
+    const WIDTH: usize = 21;
 }
 
 impl Stored for ParticipantRecord {
-    ghost WIDTH = { 21 };
-
-    const WIDTH: usize = ParticipantRecord::WIDTH;
-
     ghost stored_at = { participant_at };
 
     fn read_at(bytes: &[u8], at: usize) -> ParticipantRecord {
@@ -63,16 +62,15 @@ impl AccountRecord {
         funds: 0,
         overnight: 0,
     };
+}
 
-    // The bytes that one has.
-    pub const WIDTH: usize = 24;
+impl Wide for AccountRecord {
+    ghost WIDTH = { 24 };
+
+    const WIDTH: usize = 24;
 }
 
 impl Stored for AccountRecord {
-    ghost WIDTH = { 24 };
-
-    const WIDTH: usize = AccountRecord::WIDTH;
-
     ghost stored_at = { account_at };
 
     fn read_at(bytes: &[u8], at: usize) -> AccountRecord {

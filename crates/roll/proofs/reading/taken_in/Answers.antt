@@ -13,15 +13,15 @@ push-requires g c =
 
 pub returns-in-Err-clause-refuses_the_first_fault : goal.returns-in-Err-clause-refuses_the_first_fault
 returns-in-Err-clause-refuses_the_first_fault g c =
-    told_here g.R.Limited.faulty g.R.Limited.WIDTH c.args.from c.args.records.now c.loop-i.i c.loop-i.invariant.faultless c.index-records-i.result c.in-Err.fault.offset _ _ c.loop-i-test.true c.index-records-i.is
+    told_here g.R.Limited.faulty g.R.Wide.WIDTH c.args.from c.args.records.now c.loop-i.i c.loop-i.invariant.faultless c.index-records-i.result c.in-Err.fault.offset _ _ c.loop-i-test.true c.index-records-i.is
     (c.requires.tells_the_fault _ _ c.in-Err.ensures) c.WIDTH.ensures c.from.ensures
 
 pub loop-i-preserved : goal.loop-i-preserved
 loop-i-preserved g c = record {
-  faultless = not_here g.R.Limited.faulty g.R.Limited.WIDTH c.args.from c.args.records.now c.loop-i.i c.loop-i.invariant.faultless c.index-records-i.result c.loop-i-test.true c.index-records-i.is
+  faultless = not_here g.R.Limited.faulty g.R.Wide.WIDTH c.args.from c.args.records.now c.loop-i.i c.loop-i.invariant.faultless c.index-records-i.result c.loop-i-test.true c.index-records-i.is
       (c.requires.takes_faultless _ _ c.in-Ok.ensures);
   taken = made_more (λ r x. g.T.TryFrom.try_from_gives r (Ok x)) c.args.records.now _ _ c.loop-i.i c.index-records-i.result c.in-Ok.taken c.loop-i-test.true c.index-records-i.is c.in-Ok.ensures c.push.ensures.adds_it_at_the_end c.loop-i.invariant.taken;
 }
 
 pub returns-clause-refuses_the_first_fault : goal.returns-clause-refuses_the_first_fault
-returns-clause-refuses_the_first_fault g c = nowhere g.R.Limited.faulty g.R.Limited.WIDTH c.args.from c.args.records.now c.loop-i.i c.loop-i.invariant.faultless c.loop-i-test.false
+returns-clause-refuses_the_first_fault g c = nowhere g.R.Limited.faulty g.R.Wide.WIDTH c.args.from c.args.records.now c.loop-i.i c.loop-i.invariant.faultless c.loop-i-test.false
