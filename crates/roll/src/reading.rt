@@ -3,7 +3,6 @@ ghost use Rattle.std.specs.Prelude.{◌≡◌, ◌+◌, ◌*◌, ◌≤◌, leng
 ghost use Rattle.std.specs.List.{AllZip};
 ghost use Rattle.std.specs.Result.{result_map_both};
 ghost use Rattle.rows.specs.Tables.{records as table_records};
-ghost use Rattle.roll.specs.declared.fault.RollFault.TheVariants as cases;
 ghost use Rattle.roll.specs.declared.field.FieldFault.{FieldFault as Outside};
 ghost use Rattle.roll.specs.Limits.{first_fault, told, roll_of, roll_bytes};
 ghost use Rattle.roll.specs.Read.{WithinLimits};
@@ -33,14 +32,11 @@ fn taken_in<R: Limited, T: TryFrom<R, Error = FieldFault> + Copy, const N: usize
 {
     let mut table = Table::empty(blank);
     for (i, record) in records.iter().enumerate() {
+        let place = from + R::WIDTH * i;
         let taken = T::try_from(*record).map_err(
-            |fault| -> RollFault
-                requires { from + R.WIDTH * i ≤ 4423 }
-                ensures { result ≡ cases.Field (from + R.WIDTH * i + fault.offset) }
-            {
-                let place = from + R::WIDTH * i + usize::from(fault.offset);
-                RollFault::Field(place as u16)
-            },
+            |fault|
+                requires { place ≤ 4423 }
+            { RollFault::Field((place + usize::from(fault.offset)) as u16) },
         )?;
         table.push(taken);
     }
