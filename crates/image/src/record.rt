@@ -3,6 +3,8 @@ ghost use Rattle.image.specs.Layout.{participant_at, account_at};
 
 use crate::stored::{Stored, Wide};
 
+// A participant as its bytes give it: the scope may be any byte, and there is no mark of default. So the roll's `Participant` is
+// another type on purpose.
 #[derive(Clone, Copy, Debug, PartialEq, Eq)]
 pub struct ParticipantRecord {
     pub code: u32,
@@ -14,7 +16,8 @@ pub struct ParticipantRecord {
 }
 
 impl ParticipantRecord {
-    // What stands in a table's place before a record is written there.
+    // What stands in a table's place before a record is written there. No derived `Default`: the constant is public and stands,
+    // so that a `Default` would be a second blank beside it.
     pub const BLANK: ParticipantRecord = ParticipantRecord {
         code: 0,
         futures: 0,
@@ -46,6 +49,8 @@ impl Stored for ParticipantRecord {
     }
 }
 
+// An account as its bytes give it, with any sums. So the roll's `Account`, whose sums are within their limits, is another type on
+// purpose.
 #[derive(Clone, Copy, Debug, PartialEq, Eq)]
 pub struct AccountRecord {
     pub code: u32,

@@ -29,6 +29,8 @@ fn bytes_at<const N: usize>(bytes: &[u8], at: usize) -> [u8; N]
     *bytes[at..].first_chunk().unwrap()
 }
 
+// The numbers of an image, an impl for each width: the library's `from_be_bytes` is no method of a trait, and no macro of our
+// own may write impls.
 impl Wide for u8 {
     ghost WIDTH = { 1 };
 
