@@ -22,7 +22,7 @@ pub struct Book<B: Basis> {
     pub(crate) owed: [u64; MOST_PARTICIPANTS],
     // what each account has lost and not got back
     pub(crate) outstanding: [Outstanding; MOST_ACCOUNTS],
-    // how many declarations there are: each row of `outstanding` has its places for eight, since there is no heap
+    // how many declarations there are: without a heap, each row of `outstanding` has places for all eight
     pub(crate) declarations: usize,
     pub(crate) termination: Termination,
     // how many entries are numbered, and how many lines of the journal are used
@@ -31,8 +31,8 @@ pub struct Book<B: Basis> {
     // tables of full length
     ghost full_owed: { length owed ≡ 64 },
     ghost full_outstanding: { length outstanding ≡ 128 },
-    // the roll is one that a book can hold: few records, each field within its limits, codes apart, owners known, and no more
-    // defaults counted than participants marked
+    // the roll is one that a book can hold: few records, each field within its limits, codes apart, owners known, nobody above the
+    // limit in its accounts, and no more defaults counted than participants marked
     ghost holdable: { Holdable (standing roll) },
     // nobody has more at stake than the limit: in its accounts, or outstanding to it
     ghost nobody_above: { staked_above (standing roll).participants (holdings (standing roll).accounts outstanding) ≡ 0 },
