@@ -28,6 +28,6 @@ unfolding model
 modelled book =
     let s = standing book.roll in
     λ i. rolled
-    (their_participants s.participants book.owed (omega (arith, book.few_participants, book.full_owed)) i)
-    (their_accounts s.accounts book.outstanding (omega (arith, book.few_accounts, book.full_outstanding)) i)
+    (their_participants s.participants book.owed (omega (arith, book.holdable.few_participants, book.full_owed)) i)
+    (their_accounts s.accounts book.outstanding (omega (arith, book.holdable.few_accounts, book.full_outstanding)) i)
     s.defaults

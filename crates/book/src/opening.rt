@@ -95,6 +95,7 @@ impl<B: Basis> Book<B> {
     }
 
     // The roll as it stands. Every book's roll is one that a book can hold.
+    #[tactic(auto, using(crate::proofs::Modelling::modelled))]
     pub fn roll(&self) -> &Roll
         ensures stands_as_the_book_does { standing result.now ≡ standing_of (model self.now) }
         ensures is_one_that_a_book_can_hold { Holdable (standing result.now) }

@@ -15,7 +15,7 @@ pub enum Termination {
 }
 
 // What an account has lost under each of the eight declarations and has not got back.
-#[derive(Clone, Copy)]
+#[derive(Clone, Copy, Debug, PartialEq, Eq)]
 pub struct Outstanding {
     pub by_declaration: [u64; 8],
 }

@@ -1,6 +1,6 @@
 // The book itself.
-ghost use Rattle.std.specs.Prelude.{◌≡◌, ◌≤◌, length, count_by};
-ghost use Rattle.roll.specs.Holdable.{participant_outside, account_outside, participants_alike, accounts_alike, accounts_unowned};
+ghost use Rattle.std.specs.Prelude.{◌≡◌, ◌≤◌, length};
+ghost use Rattle.roll.specs.Holdable.{Holdable};
 ghost use Rattle.roll.specs.Standing.{standing};
 ghost use Rattle.book.specs.Holdings.{holdings, staked_above, owing_above};
 
@@ -22,6 +22,7 @@ pub struct Book<B: Basis> {
     pub(crate) owed: [u64; MOST_PARTICIPANTS],
     // what each account has lost and not got back
     pub(crate) outstanding: [Outstanding; MOST_ACCOUNTS],
+    // how many declarations there are: without a heap, each row of `outstanding` has places for all eight
     pub(crate) declarations: usize,
     pub(crate) termination: Termination,
     // how many entries are numbered, and how many lines of the journal are used
@@ -30,18 +31,11 @@ pub struct Book<B: Basis> {
     // tables of full length
     ghost full_owed: { length owed ≡ 64 },
     ghost full_outstanding: { length outstanding ≡ 128 },
-    // few records, each field within its limits, codes apart, owners known
-    ghost few_participants: { length (standing roll).participants ≤ 64 },
-    ghost few_accounts: { length (standing roll).accounts ≤ 128 },
-    ghost participants_within: { count_by participant_outside (standing roll).participants ≡ 0 },
-    ghost accounts_within: { count_by account_outside (standing roll).accounts ≡ 0 },
-    ghost participants_apart: { participants_alike (standing roll).participants ≡ 0 },
-    ghost accounts_apart: { accounts_alike (standing roll).accounts ≡ 0 },
-    ghost owners_known: { accounts_unowned (standing roll).participants (standing roll).accounts ≡ 0 },
+    // the roll is one that a book can hold: few records, each field within its limits, codes apart, owners known, nobody above the
+    // limit in its accounts, and no more defaults counted than participants marked
+    ghost holdable: { Holdable (standing roll) },
     // nobody has more at stake than the limit: in its accounts, or outstanding to it
     ghost nobody_above: { staked_above (standing roll).participants (holdings (standing roll).accounts outstanding) ≡ 0 },
-    // no more defaults counted than participants marked
-    ghost defaults_marked: { (standing roll).defaults ≤ count_by (λ p. p.in_default) (standing roll).participants },
     ghost owed_within: { owing_above owed ≡ 0 },
     ghost few_declarations: { declarations ≤ 8 },
     ghost entries_written: { entries ≤ lines },

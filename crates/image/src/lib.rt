@@ -11,4 +11,5 @@ mod tables;
 pub use fault::ImageFault;
 pub use reading::{HEAD, read};
 pub use record::{AccountRecord, ParticipantRecord};
+pub use stored::Wide;
 pub use tables::{Image, MOST_ACCOUNTS, MOST_PARTICIPANTS};

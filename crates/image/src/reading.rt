@@ -9,7 +9,7 @@ ghost use Rattle.rows.specs.Tables.{records};
 
 use crate::fault::ImageFault;
 use crate::record::{AccountRecord, ParticipantRecord};
-use crate::stored::Stored;
+use crate::stored::{Stored, Wide};
 use crate::tables::{Image, MOST_ACCOUNTS, MOST_PARTICIPANTS};
 use rows::Table;
 
@@ -70,6 +70,7 @@ fn table_at<R: Stored + Copy, const N: usize>(
     requires { first + R.WIDTH * count ≤ length bytes.now }
     ensures { records result ≡ map (λ i. R.stored_at bytes.now (first + R.WIDTH * i)) (range_with_len 0 (min count N)) }
 {
+    // The closure asks again that the bytes are there: it is told nothing of what the function around it asks.
     Table::tabulate(
         count,
         blank,

@@ -1,8 +1,10 @@
 // The records of an image, as they are written there.
 ghost use Rattle.image.specs.Layout.{participant_at, account_at};
 
-use crate::stored::Stored;
+use crate::stored::{Stored, Wide};
 
+// A participant as its bytes give it: the scope may be any byte, and there is no mark of default. So the roll's `Participant` is
+// another type on purpose.
 #[derive(Clone, Copy, Debug, PartialEq, Eq)]
 pub struct ParticipantRecord {
     pub code: u32,
@@ -14,7 +16,8 @@ pub struct ParticipantRecord {
 }
 
 impl ParticipantRecord {
-    // What stands in a table's place before a record is written there.
+    // What stands in a table's place before a record is written there. No derived `Default`: the constant is public and stands,
+    // so that a `Default` would be a second blank beside it.
     pub const BLANK: ParticipantRecord = ParticipantRecord {
         code: 0,
         futures: 0,
@@ -23,16 +26,15 @@ impl ParticipantRecord {
         adjusted: 0,
         scope: 0,
     };
+}
 
-    // The bytes that one has.
-    pub const WIDTH: usize = 21;
+impl Wide for ParticipantRecord {
+    ghost WIDTH = { 21 };
+
+    const WIDTH: usize = 21;
 }
 
 impl Stored for ParticipantRecord {
-    ghost WIDTH = { 21 };
-
-    const WIDTH: usize = ParticipantRecord::WIDTH;
-
     ghost stored_at = { participant_at };
 
     fn read_at(bytes: &[u8], at: usize) -> ParticipantRecord {
@@ -47,6 +49,8 @@ impl Stored for ParticipantRecord {
     }
 }
 
+// An account as its bytes give it, with any sums. So the roll's `Account`, whose sums are within their limits, is another type on
+// purpose.
 #[derive(Clone, Copy, Debug, PartialEq, Eq)]
 pub struct AccountRecord {
     pub code: u32,
@@ -63,16 +67,15 @@ impl AccountRecord {
         funds: 0,
         overnight: 0,
     };
+}
 
-    // The bytes that one has.
-    pub const WIDTH: usize = 24;
+impl Wide for AccountRecord {
+    ghost WIDTH = { 24 };
+
+    const WIDTH: usize = 24;
 }
 
 impl Stored for AccountRecord {
-    ghost WIDTH = { 24 };
-
-    const WIDTH: usize = AccountRecord::WIDTH;
-
     ghost stored_at = { account_at };
 
     fn read_at(bytes: &[u8], at: usize) -> AccountRecord {

@@ -1,5 +1,5 @@
 -- Finding the first fault of a table, record by record. Assumes nothing.
-use Rattle.std.proofs.Common.{◌≡◌, ℕ, ◌+◌, ◌*◌, ◌<◌, ◌≤◌, List, [], ◌∷◌, length, get_or, drop, Some, None, Ok, Err, Option, sym, refl, ap, ◌∙◌, mul-add, mul-one, arith}
+use Rattle.std.proofs.Common.{◌≡◌, ℕ, ◌+◌, ◌*◌, ◌<◌, ◌≤◌, List, [], ◌∷◌, length, get_or, drop, Some, None, Ok, Err, Option, Result, IsErrAnd, MatchResult, sym, refl, ap, subst, ◌∙◌, mul-add, mul-one, arith}
 use Rattle.std.specs.List.{AllByRecursion}
 use Rattle.std.proofs.lemmas.List.{at_drop_more, at_drop_all}
 use Rattle.roll.specs.declared.fault.RollFault.TheVariants.{Field}
@@ -16,11 +16,9 @@ module _ {R : Type 0} (fault : R → Option ℕ) (width from : ℕ) (records : L
       ∙ sym (at_drop_more (first_fault fault width (from + width * i)) records i r within)
       ∙ so
 
-  pub told_here : (r : R) (offset w n : ℕ) → i < length records → r ≡ get_or records i r → fault r ≡ Some offset → w ≡ width → n ≡ offset → Err (Field (from + w * i + n)) ≡ told (first_fault fault width from records)
-  told_here r offset w n within read e wide here =
-      ap (λ k. Err (Field (from + k * i + n))) wide
-      ∙ ap (λ k. Err (Field (from + width * i + k))) here
-      ∙ ap (λ o. told (first_of (from_place (from + width * i) o) (first_fault fault width (from + width * (i + 1)) (drop (i + 1) records)))) (sym e)
+  pub told_here : (r : R) (offset : ℕ) → i < length records → r ≡ get_or records i r → fault r ≡ Some offset → Err (Field (from + width * i + offset)) ≡ told (first_fault fault width from records)
+  told_here r offset within read e =
+      ap (λ o. told (first_of (from_place (from + width * i) o) (first_fault fault width (from + width * (i + 1)) (drop (i + 1) records)))) (sym e)
       ∙ ap told (one_further r within read)
 
   pub not_here : (r : R) → i < length records → r ≡ get_or records i r → fault r ≡ None → first_fault fault width (from + width * (i + 1)) (drop (i + 1) records) ≡ first_fault fault width from records
@@ -45,3 +43,18 @@ each_without fault width place [] e = tt
 each_without fault width place (r ∷ rs) e =
     let p = not_first _ _ e in
     (not_moved place (fault r) p.0, each_without fault width (place + width) rs p.1)
+
+-- a result whose error is told in other words
+module _ {X E D : Type 0} (P : E → D → Type 0) where
+  abbrev Retold : Result X E → Result X D → Type 0
+  Retold r s = MatchResult r (λ x. s ≡ Ok x) (λ e. IsErrAnd s (P e))
+
+  pub was_ok : (r : Result X E) (s : Result X D) (x : X) → Retold r s → s ≡ Ok x → r ≡ Ok x
+  was_ok (Ok y) s x same is = cc
+  was_ok (Err e) (Ok y) x same is = absurd same
+  was_ok (Err e) (Err d) x same is = absurd cc
+
+  pub was_error : (r : Result X E) (s : Result X D) (d : D) → Retold r s → s ≡ Err d → (e : E) × (r ≡ Err e) × P e d
+  was_error (Ok y) s d same is = absurd cc
+  was_error (Err e) (Ok y) d same is = absurd same
+  was_error (Err e) (Err f) d same is = let one : f ≡ d = cc in (e, refl, subst (P e) one same)

@@ -1,7 +1,8 @@
 // An account as it stands in the roll.
 ghost use Rattle.std.specs.Prelude.{◌≤◌};
 
-// Neither of its sums is ever above its limit, so that sums over accounts fit wherever they are reckoned.
+// Neither of its sums is ever above its limit, so that sums over accounts fit wherever they are reckoned. Another type than the
+// image's `AccountRecord` on purpose: that may have any sums, as its bytes give them.
 #[derive(Clone, Copy, Debug, PartialEq, Eq)]
 pub struct Account {
     pub code: u32,

@@ -4,7 +4,7 @@ ghost use Rattle.roll.specs.Fields.{unless_outside};
 ghost use Rattle.roll.specs.Limits.{no_code, participant_fault, account_fault};
 
 use crate::field::{FieldFault, unless};
-use image::{AccountRecord, ParticipantRecord};
+use image::{AccountRecord, ParticipantRecord, Wide};
 
 // The highest code.
 const LAST_CODE: u32 = 999_999;
@@ -21,12 +21,7 @@ fn is_no_code(code: u32) -> bool
 }
 
 // A record whose fields have limits.
-pub(crate) trait Limited: Copy {
-    // The bytes that one has in an image.
-    ghost WIDTH: { ℕ };
-
-    const WIDTH: usize;
-
+pub(crate) trait Limited: Wide + Copy {
     // Its first field outside its limits, by the byte of the record where it begins.
     ghost faulty: { Self → Maybe ℕ };
 
@@ -36,10 +31,6 @@ pub(crate) trait Limited: Copy {
 }
 
 impl Limited for ParticipantRecord {
-    ghost WIDTH = { 21 };
-
-    const WIDTH: usize = ParticipantRecord::WIDTH;
-
     ghost faulty = { participant_fault };
 
     fn tested(&self) -> Result<(), FieldFault> {
@@ -53,10 +44,6 @@ impl Limited for ParticipantRecord {
 }
 
 impl Limited for AccountRecord {
-    ghost WIDTH = { 24 };
-
-    const WIDTH: usize = AccountRecord::WIDTH;
-
     ghost faulty = { account_fault };
 
     fn tested(&self) -> Result<(), FieldFault> {

@@ -7,6 +7,7 @@ use crate::field::FieldFault;
 use crate::limits::Limited;
 use image::ParticipantRecord;
 
+// Another type than the image's `ParticipantRecord` on purpose: there the scope may be any byte, and nobody is marked as in default.
 #[derive(Clone, Copy, Debug, PartialEq, Eq)]
 pub struct Participant {
     pub code: u32,
@@ -21,7 +22,8 @@ pub struct Participant {
 }
 
 impl Participant {
-    // What stands in a table's place before a participant is written there.
+    // What stands in a table's place before a participant is written there. No derived `Default`: the constant is public and
+    // stands, so that a `Default` would be a second blank beside it.
     pub const BLANK: Participant = Participant {
         code: 0,
         futures: 0,

@@ -1,5 +1,5 @@
 // Reading a roll from its image.
-ghost use Rattle.std.specs.Prelude.{◌≡◌, ℕ, ◌+◌, ◌*◌, ◌≤◌, length, IfOk, None as no_fault};
+ghost use Rattle.std.specs.Prelude.{◌≡◌, ◌+◌, ◌*◌, ◌≤◌, length, IfOk, None as no_fault};
 ghost use Rattle.std.specs.List.{AllZip};
 ghost use Rattle.std.specs.Result.{result_map_both};
 ghost use Rattle.rows.specs.Tables.{records as table_records};
@@ -14,7 +14,7 @@ use crate::field::FieldFault;
 use crate::limits::Limited;
 use crate::participant::Participant;
 use crate::table::Roll;
-use image::{HEAD, ParticipantRecord};
+use image::{HEAD, ParticipantRecord, Wide};
 use rows::Table;
 
 // What the records of a table give that begins at a place, or the first field of one that is outside its limits.
@@ -32,13 +32,13 @@ fn taken_in<R: Limited, T: TryFrom<R, Error = FieldFault> + Copy, const N: usize
 {
     let mut table = Table::empty(blank);
     for (i, record) in records.iter().enumerate() {
-        match T::try_from(*record) {
-            Ok(taken) => table.push(taken),
-            Err(fault) => {
-                let place = from + R::WIDTH * i + usize::from(fault.offset);
-                return Err(RollFault::Field(place as u16));
-            }
-        }
+        let place = from + R::WIDTH * i;
+        let taken = T::try_from(*record).map_err(
+            |fault|
+                requires { place ≤ 4423 }
+            { RollFault::Field((place + usize::from(fault.offset)) as u16) },
+        )?;
+        table.push(taken);
     }
     Ok(table)
 }

@@ -7,6 +7,6 @@ use Rattle.roll.proofs.reading.taken_in.Given as goal
 -- the records so far have no fault, and what they give is in the table
 abbrev pub invariant-loop-i : goal.invariant-loop-i
 invariant-loop-i g l = record {
-  faultless : first_fault g.R.Limited.faulty g.R.Limited.WIDTH (l.from + g.R.Limited.WIDTH * l.i) (drop l.i l.records) ≡ first_fault g.R.Limited.faulty g.R.Limited.WIDTH l.from l.records;
+  faultless : first_fault g.R.Limited.faulty g.R.Wide.WIDTH (l.from + g.R.Wide.WIDTH * l.i) (drop l.i l.records) ≡ first_fault g.R.Limited.faulty g.R.Wide.WIDTH l.from l.records;
   taken : AllZip (λ r x. g.T.TryFrom.try_from_gives r (Ok x)) (take l.i l.records) (table_records l.table);
 }
