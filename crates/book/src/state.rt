@@ -9,7 +9,8 @@ use basis::Basis;
 use image::{MOST_ACCOUNTS, MOST_PARTICIPANTS};
 use roll::Roll;
 
-// What a book always keeps stands in its ghost fields: it holds of every book, before its first opening too.
+// What a book always keeps stands in its ghost fields: it holds of every book, before its first opening too. No `Model`: a
+// refused opening leaves every field and every spare place as it was, and a view would say less.
 #[derive(Drop)]
 pub struct Book<B: Basis> {
     // what participants weigh

@@ -7,7 +7,7 @@ pub const MOST_PARTICIPANTS: usize = 64;
 
 pub const MOST_ACCOUNTS: usize = 128;
 
-// The records of an image, in order.
+// The records of an image, in order. No `Model`: what is copied has to be seen whole, and contracts see the records only.
 #[derive(Clone, Copy)]
 pub struct Image {
     pub(crate) participants: Table<ParticipantRecord, MOST_PARTICIPANTS>,
