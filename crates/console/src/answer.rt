@@ -1,9 +1,10 @@
 // The text that answers a split.
-ghost use Rattle.std.specs.Prelude.{◌≡◌, ◌++◌, Some, string_bytes, OnOk};
+ghost use Rattle.std.specs.Prelude.{Some, string_bytes};
 ghost use Rattle.std.specs.List.{flat_map};
 ghost use Rattle.split.specs.Refusals.{number_of};
 ghost use Rattle.console.specs.Answers.{split_text};
 ghost use Rattle.console.specs.Lines.{refusal_line, reason_line, told_lines};
+ghost use Rattle.console.specs.Texts.{Appends};
 
 use split::{Reason, Refusal, Stake};
 use std::alloc::{AllocError, Global};
@@ -80,7 +81,7 @@ fn print_all(
     reasons: &[Reason],
     out: &mut String,
 ) -> Result<(), AllocError>
-    ensures { OnOk result (string_bytes out.new ≡ string_bytes out.old ++ flat_map (told_lines explaining sum) reasons.now) }
+    ensures { Appends result (string_bytes out.old) (string_bytes out.new) (flat_map (told_lines explaining sum) reasons.now) }
 {
     for reason in reasons {
         let told = Told {
@@ -102,7 +103,7 @@ pub(crate) fn answer_split(
     bearers: &[Stake],
     out: &mut String,
 ) -> Result<(), AllocError>
-    ensures { OnOk result (string_bytes out.new ≡ string_bytes out.old ++ split_text explaining sum bearers.now) }
+    ensures { Appends result (string_bytes out.old) (string_bytes out.new) (split_text explaining sum bearers.now) }
 {
     let mut reasons = vec![in heap; Reason::BLANK; bearers.len()]?;
     match split::explain(sum, bearers, reasons.as_mut_slice()) {
