@@ -32,9 +32,7 @@ pub fn number(word: &[u8], largest: u64) -> Option<u64>
     if digits.is_empty() {
         return None;
     }
-    let mut value = 0;
-    for b in digits {
-        value = with_digit(value, *b, largest)?;
-    }
-    Some(value)
+    digits
+        .iter()
+        .try_fold(0, |value, b| with_digit(value, *b, largest))
 }
