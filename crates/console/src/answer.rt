@@ -52,29 +52,7 @@ impl fmt::Display for Because<'_> {
     }
 }
 
-// What is said of one bearer: its share, and while explanations are printed why it is that.
-#[derive(Clone, Copy)]
-struct Told<'a> {
-    explaining: bool,
-    sum: u64,
-    reason: &'a Reason,
-}
-
-impl fmt::Display for Told<'_> {
-    ghost output = { λ told. Some (told_lines told.explaining told.sum told.reason.now) };
-
-    fn fmt<W: fmt::Write>(&self, f: &mut fmt::Formatter<W>) -> fmt::Result {
-        let sum = self.sum;
-        let reason = self.reason;
-        writeln!(f, "share {} {}", reason.division.code, reason.share)?;
-        if self.explaining {
-            write!(f, "{}", Because { sum, reason })?;
-        }
-        Ok(())
-    }
-}
-
-// What is said of the bearers, in their order.
+// What is said of the bearers, in their order: the share of each, and while explanations are printed why it is that.
 fn print_all(
     explaining: bool,
     sum: u64,
@@ -84,12 +62,10 @@ fn print_all(
     ensures { Appends result (string_bytes out.old) (string_bytes out.new) (flat_map (told_lines explaining sum) reasons.now) }
 {
     for reason in reasons {
-        let told = Told {
-            explaining,
-            sum,
-            reason,
-        };
-        write!(out, "{told}")?;
+        writeln!(out, "share {} {}", reason.division.code, reason.share)?;
+        if explaining {
+            write!(out, "{}", Because { sum, reason })?;
+        }
     }
     Ok(())
 }
