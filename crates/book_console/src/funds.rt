@@ -26,7 +26,9 @@ impl fmt::Display for Funds<'_> {
     }
 }
 
-// The funds of the accounts, in their order.
+// The funds of the accounts, in their order. One function for this loop and that of `console`'s answers is no plainer: it
+// would take what is printed of an item as a closure, and its contract would have to say what every such closure prints,
+// where here it is one line.
 pub(crate) fn print_funds(accounts: &[Account], out: &mut String) -> Result<(), AllocError>
     ensures { Appends result (string_bytes out.old) (string_bytes out.new) (flat_map funds_line (map balance_of accounts.now)) }
 {

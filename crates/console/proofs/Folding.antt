@@ -1,5 +1,5 @@
 -- A chain that takes a number along digit by digit, and breaks off where none comes of it.
-use Rattle.std.proofs.Common.{◌≡◌, ℕ, ◌≤◌, List, [], ◌∷◌, length, Iter, Some, None, Option, Bor, sym, refl, ap, subst, ◌∙◌, arith}
+use Rattle.std.proofs.Common.{◌≡◌, ℕ, ◌≤◌, List, [], ◌∷◌, length, Iter, Some, None, Option, Bor, sym, ap, subst, ◌∙◌, arith}
 use Rattle.std.specs.Fn.{Mut, Called}
 use Rattle.std.specs.Option.{MatchOption}
 use Rattle.std.specs.Iterator.{Yields, TryFoldsItems, TryFoldTurn}

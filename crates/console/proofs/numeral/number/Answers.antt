@@ -1,4 +1,4 @@
-use Rattle.std.proofs.Common.{◌≡◌, ◌∙◌, true-eqb, false-eqb, ap, rules, tests}
+use Rattle.std.proofs.Common.{◌∙◌, true-eqb, false-eqb, ap, rules, tests}
 use Rattle.console.specs.Numerals.{value_after, up_to}
 use Rattle.console.proofs.Digits.{no_digits, some_digits}
 use Rattle.console.proofs.Folding.{folded}
