@@ -1,7 +1,8 @@
 // The console: it takes the lines one after another.
-ghost use Rattle.std.specs.Prelude.{◌≡◌, ◌++◌, is_ok, IsErr, if◌then◌else◌, vec_items, string_bytes, OnOk};
+ghost use Rattle.std.specs.Prelude.{◌≡◌, IsErr, vec_items, string_bytes};
 ghost use Rattle.std.specs.Option.{option_map};
 ghost use Rattle.console.specs.Readings.{Tells};
+ghost use Rattle.console.specs.Texts.{Appends, Keeps};
 ghost use Rattle.commands.specs.Meanings.{order as order_of, meaning, read_as, OutOfMemory, Fails};
 ghost use Rattle.commands.specs.Readings.{reading_of};
 ghost use Rattle.book_console.specs.Answers.{opening_text, funds_text, order_text, text_of};
@@ -69,8 +70,8 @@ impl Console {
     // Opens a book from the bytes, and appends the text that answers it. The text comes first, so that nothing is kept of
     // a call that fails.
     fn open(&mut self, image: &[u8], out: &mut String) -> Result<(), AllocError>
-        ensures keeps { self.new ≡ (if is_ok result then kept_open image.now self.old else self.old) }
-        ensures answers { OnOk result (string_bytes out.new ≡ string_bytes out.old ++ opening_text image.now) }
+        ensures keeps { Keeps result self.old self.new (kept_open image.now self.old) }
+        ensures answers { Appends result (string_bytes out.old) (string_bytes out.new) (opening_text image.now) }
     {
         let outcome = opened_book(self.basis, image);
         let said = Opening {
@@ -86,7 +87,7 @@ impl Console {
 
     // Lists the funds of the book.
     fn list_funds(&self, out: &mut String) -> Result<(), AllocError>
-        ensures { OnOk result (string_bytes out.new ≡ string_bytes out.old ++ funds_text self.now.book) }
+        ensures { Appends result (string_bytes out.old) (string_bytes out.new) (funds_text self.now.book) }
     {
         match &self.book {
             Some(book) => print_funds(book.roll().accounts(), out),
@@ -102,8 +103,8 @@ impl Console {
         file: Option<Vec<u8>>,
         out: &mut String,
     ) -> Result<(), AllocError>
-        ensures keeps { self.new ≡ (if is_ok result then kept_by (order_of command) (option_map vec_items file) self.old else self.old) }
-        ensures answers { OnOk result (string_bytes out.new ≡ string_bytes out.old ++ order_text (order_of command) (option_map vec_items file) self.old) }
+        ensures keeps { Keeps result self.old self.new (kept_by (order_of command) (option_map vec_items file) self.old) }
+        ensures answers { Appends result (string_bytes out.old) (string_bytes out.new) (order_text (order_of command) (option_map vec_items file) self.old) }
     {
         match command {
             Command::Split(told) => self.splits.obey(heap, told, out),
@@ -134,8 +135,8 @@ impl Console {
         file: Option<Vec<u8>>,
         out: &mut String,
     ) -> Result<(), AllocError>
-        ensures keeps_as_told { self.new ≡ (if is_ok result then kept_after (read_as reading) (option_map vec_items file) self.old else self.old) }
-        ensures answers_as_defined { OnOk result (string_bytes out.new ≡ string_bytes out.old ++ text_of (read_as reading) (option_map vec_items file) self.old) }
+        ensures keeps_as_told { Keeps result self.old self.new (kept_after (read_as reading) (option_map vec_items file) self.old) }
+        ensures answers_as_defined { Appends result (string_bytes out.old) (string_bytes out.new) (text_of (read_as reading) (option_map vec_items file) self.old) }
         ensures fails_where_reading_ran_out { OutOfMemory reading → IsErr result }
     {
         match reading {

@@ -9,7 +9,7 @@ use Rattle.commands.specs.Hex.{bytes_of}
 use Rattle.commands.specs.Meanings.{Order, goes_by, journals, opens, opens_file, lists_funds, Meaning, nothing, tells, bad_command, no_book, bad_number, as_split}
 use Rattle.commands.specs.Verbs.{verb_of, basis_of}
 
--- A command that takes just one word.
+-- What a command tells that takes just one word, given the word that stands alone, if one does.
 abbrev pub by_word : (List ℕ → Meaning) → Option (List ℕ) → Meaning
 by_word told None = bad_command
 by_word told (Some word) = told word

@@ -1,8 +1,8 @@
 // Reading of a line.
-ghost use Rattle.std.specs.Prelude.{◌≡◌, map, vec_items};
+ghost use Rattle.std.specs.Prelude.{map, vec_items};
 ghost use Rattle.console.specs.Readings.{Tells};
 ghost use Rattle.commands.specs.Meanings.{ordered, meaning, Fails};
-ghost use Rattle.commands.specs.Readings.{commanded, basis_told, journal_told, image_told, roll_told, funds_told, told, reading_of};
+ghost use Rattle.commands.specs.Readings.{basis_told, journal_told, image_told, roll_told, funds_told, told, reading_of};
 
 use crate::command::Command;
 use crate::error::ReadError;
@@ -66,24 +66,6 @@ fn read_funds(has_book: bool, arguments: &[Vec<u8>]) -> Result<Command, ReadErro
     Ok(Command::Funds)
 }
 
-// What a command that is about books tells: its verb, and the words after it.
-fn read_verb(
-    heap: Global,
-    has_book: bool,
-    verb: Verb,
-    arguments: &[Vec<u8>],
-) -> Result<Command, ReadError>
-    ensures { Tells ordered Fails result (commanded has_book verb (map vec_items arguments.now)) }
-{
-    match verb {
-        Verb::Basis => read_basis(arguments),
-        Verb::Journal => read_journal(arguments),
-        Verb::Image => read_image(heap, arguments),
-        Verb::Roll => read_roll(heap, arguments),
-        Verb::Funds => read_funds(has_book, arguments),
-    }
-}
-
 // What the words of a line tell. What is not about books, the console that splits reads.
 fn read_words(heap: Global, has_book: bool, words: &[Vec<u8>]) -> Result<Option<Command>, ReadError>
     ensures { Tells meaning Fails result (told has_book (map vec_items words.now)) }
@@ -91,10 +73,16 @@ fn read_words(heap: Global, has_book: bool, words: &[Vec<u8>]) -> Result<Option<
     let Some((first, arguments)) = words.split_first() else {
         return Ok(None);
     };
-    match verb_named(first.as_slice()) {
-        Some(verb) => Ok(Some(read_verb(heap, has_book, verb, arguments)?)),
-        None => Ok(console::read_words(heap, words)?.map(Command::Split)),
-    }
+    // A match, since the verb is what the line says, and each arm reads other words.
+    let command = match verb_named(first.as_slice()) {
+        Some(Verb::Basis) => read_basis(arguments)?,
+        Some(Verb::Journal) => read_journal(arguments)?,
+        Some(Verb::Image) => read_image(heap, arguments)?,
+        Some(Verb::Roll) => read_roll(heap, arguments)?,
+        Some(Verb::Funds) => read_funds(has_book, arguments)?,
+        None => return Ok(console::read_words(heap, words)?.map(Command::Split)),
+    };
+    Ok(Some(command))
 }
 
 // What a line tells, where a book is there or not: nothing where it has no words, else a command.

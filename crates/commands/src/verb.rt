@@ -3,7 +3,7 @@ ghost use Rattle.std.specs.Prelude.{◌≡◌};
 ghost use Rattle.commands.specs.Verbs.{verb_of, basis_of};
 
 // What a command does: its first word.
-#[derive(Clone, Copy)]
+#[derive(Clone, Copy, Debug, PartialEq, Eq)]
 pub(crate) enum Verb {
     Basis,
     Journal,
@@ -13,12 +13,12 @@ pub(crate) enum Verb {
 }
 
 // A basis, as it is named.
-#[derive(Clone, Copy)]
+#[derive(Clone, Copy, Debug, PartialEq, Eq)]
 pub enum BasisName {
     Commitment,
 }
 
-// The verb that a word is, letter for letter.
+// The verb that a word is, letter for letter. An `Option`, for the reason that the console's `verb_named` gives.
 pub(crate) fn verb_named(word: &[u8]) -> Option<Verb>
     ensures { result ≡ verb_of word.now }
 {

@@ -1,6 +1,5 @@
 -- How a number grows digit by digit.
-use Rattle.std.proofs.Common.{◌≡◌, ℕ, ◌+◌, ◌-◌, ◌*◌, ◌<◌, ◌≤◌, Bool, true, false, cond, leb, List, [], ◌∷◌, length, get_or, drop, Some, None, Option, sym, refl, ap, ◌∙◌, arith}
-use Rattle.std.proofs.lemmas.List.{at_drop_more, at_drop_all}
+use Rattle.std.proofs.Common.{◌≡◌, ℕ, ◌+◌, ◌-◌, ◌*◌, ◌<◌, ◌≤◌, Bool, true, false, cond, leb, List, [], ◌∷◌, length, Some, None, Option, sym, refl, ap, ◌∙◌, arith}
 use Rattle.std.proofs.lemmas.Bool.{cond-true, cond-false, le-leb, lt-leb, leb-true, leb-false}
 use Rattle.console.specs.Numerals.{digit, value_after, digits_value, after_plus, up_to, number_of, longer}
 
@@ -15,7 +14,7 @@ too_large largest n (b ∷ bs) h =
     ]
 
 -- The number that the digits come to, after one of them was read: none, or it goes on from there.
-abbrev onward : ℕ → List ℕ → Option ℕ → Option ℕ
+abbrev pub onward : ℕ → List ℕ → Option ℕ → Option ℕ
 onward largest bs None = None
 onward largest bs (Some n) = up_to largest (value_after n bs)
 
@@ -29,24 +28,14 @@ module _ (largest k : ℕ) (bs : List ℕ) where
   one_digit true = kept (leb k largest) refl
   one_digit false = refl
 
-module _ (largest : ℕ) (digits : List ℕ) (i n : ℕ) (all : Option ℕ) (inv : up_to largest (value_after n (drop i digits)) ≡ all) where
-  stepped : i < length digits → onward largest (drop (i + 1) digits) (longer largest n (get_or digits i 0)) ≡ all
-  unfolding value_after
-  stepped h =
-      sym (one_digit largest (n * 10 + (get_or digits i 0 - 48)) (drop (i + 1) digits) (digit (get_or digits i 0)))
-      ∙ (sym (at_drop_more (λ bs. up_to largest (value_after n bs)) digits i 0 h) ∙ inv)
+pub one : (largest n b : ℕ) (bs : List ℕ) → up_to largest (value_after n (b ∷ bs)) ≡ onward largest bs (longer largest n b)
+unfolding value_after
+one largest n b bs = one_digit largest (n * 10 + (b - 48)) bs (digit b)
 
-  pub at_more : (m : ℕ) → i < length digits → Some m ≡ longer largest n (get_or digits i 0) → up_to largest (value_after m (drop (i + 1) digits)) ≡ all
-  at_more m h e = ap (onward largest (drop (i + 1) digits)) e ∙ stepped h
-
-  pub at_none : i < length digits → None ≡ longer largest n (get_or digits i 0) → None ≡ all
-  at_none h e = ap (onward largest (drop (i + 1) digits)) e ∙ stepped h
-
-  pub at_end : n ≤ largest → length digits ≤ i → Some n ≡ all
-  unfolding value_after
-  at_end le h =
-      sym (cond-true (leb n largest) _ _ (le-leb n largest le))
-      ∙ (sym (at_drop_all (λ bs. up_to largest (value_after n bs)) digits i h) ∙ inv)
+pub ended : (largest n : ℕ) (bs : List ℕ) → n ≤ largest → length bs ≡ 0 → Some n ≡ up_to largest (value_after n bs)
+unfolding value_after
+ended largest n [] le h = sym (cond-true (leb n largest) _ _ (le-leb n largest le))
+ended largest n (b ∷ bs) le h = absurd (omega arith)
 
 at_most : (d l : Bool) (largest k m : ℕ) → leb k largest ≡ l → Some m ≡ cond d (cond l (Some k) None) None → m ≤ largest
 at_most true true largest k m e h = let same : m ≡ k = cc in omega (arith, leb-true k largest e)

@@ -5,5 +5,6 @@ pub mod Lines
 pub mod Lists
 pub mod Numerals
 pub mod Readings
+pub mod Texts
 pub mod Verbs
 pub mod Words

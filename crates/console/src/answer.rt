@@ -1,9 +1,10 @@
 // The text that answers a split.
-ghost use Rattle.std.specs.Prelude.{◌≡◌, ◌++◌, Some, string_bytes, OnOk};
+ghost use Rattle.std.specs.Prelude.{Some, string_bytes};
 ghost use Rattle.std.specs.List.{flat_map};
 ghost use Rattle.split.specs.Refusals.{number_of};
 ghost use Rattle.console.specs.Answers.{split_text};
 ghost use Rattle.console.specs.Lines.{refusal_line, reason_line, told_lines};
+ghost use Rattle.console.specs.Texts.{Appends};
 
 use split::{Reason, Refusal, Stake};
 use std::alloc::{AllocError, Global};
@@ -51,44 +52,20 @@ impl fmt::Display for Because<'_> {
     }
 }
 
-// What is said of one bearer: its share, and while explanations are printed why it is that.
-#[derive(Clone, Copy)]
-struct Told<'a> {
-    explaining: bool,
-    sum: u64,
-    reason: &'a Reason,
-}
-
-impl fmt::Display for Told<'_> {
-    ghost output = { λ told. Some (told_lines told.explaining told.sum told.reason.now) };
-
-    fn fmt<W: fmt::Write>(&self, f: &mut fmt::Formatter<W>) -> fmt::Result {
-        let sum = self.sum;
-        let reason = self.reason;
-        writeln!(f, "share {} {}", reason.division.code, reason.share)?;
-        if self.explaining {
-            write!(f, "{}", Because { sum, reason })?;
-        }
-        Ok(())
-    }
-}
-
-// What is said of the bearers, in their order.
+// What is said of the bearers, in their order: the share of each, and while explanations are printed why it is that.
 fn print_all(
     explaining: bool,
     sum: u64,
     reasons: &[Reason],
     out: &mut String,
 ) -> Result<(), AllocError>
-    ensures { OnOk result (string_bytes out.new ≡ string_bytes out.old ++ flat_map (told_lines explaining sum) reasons.now) }
+    ensures { Appends result (string_bytes out.old) (string_bytes out.new) (flat_map (told_lines explaining sum) reasons.now) }
 {
     for reason in reasons {
-        let told = Told {
-            explaining,
-            sum,
-            reason,
-        };
-        write!(out, "{told}")?;
+        writeln!(out, "share {} {}", reason.division.code, reason.share)?;
+        if explaining {
+            write!(out, "{}", Because { sum, reason })?;
+        }
     }
     Ok(())
 }
@@ -102,7 +79,7 @@ pub(crate) fn answer_split(
     bearers: &[Stake],
     out: &mut String,
 ) -> Result<(), AllocError>
-    ensures { OnOk result (string_bytes out.new ≡ string_bytes out.old ++ split_text explaining sum bearers.now) }
+    ensures { Appends result (string_bytes out.old) (string_bytes out.new) (split_text explaining sum bearers.now) }
 {
     let mut reasons = vec![in heap; Reason::BLANK; bearers.len()]?;
     match split::explain(sum, bearers, reasons.as_mut_slice()) {

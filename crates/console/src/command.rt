@@ -57,6 +57,7 @@ pub fn read_words(heap: Global, words: &[Vec<u8>]) -> Result<Option<Command>, Re
         return Ok(None);
     };
     let verb = verb_named(first.as_slice()).ok_or(ReadError::BadCommand)?;
+    // A match, since the verb is what the line says, and each arm reads other words.
     let command = match verb {
         Verb::Explain => read_explain(arguments)?,
         Verb::Split => read_split(heap, arguments)?,

@@ -1,7 +1,8 @@
 // The console: it takes the lines one after another.
-ghost use Rattle.std.specs.Prelude.{◌≡◌, Bool, false, ◌++◌, is_ok, if◌then◌else◌, string_bytes, OnOk};
+ghost use Rattle.std.specs.Prelude.{◌≡◌, Bool, false, string_bytes};
 ghost use Rattle.console.specs.Answers.{text_of};
 ghost use Rattle.console.specs.Readings.{order, reading_of, explaining_after};
+ghost use Rattle.console.specs.Texts.{Appends, Keeps};
 
 use crate::answer::answer_split;
 use crate::command::{Command, read};
@@ -40,8 +41,8 @@ impl Console {
         command: Command,
         out: &mut String,
     ) -> Result<(), AllocError>
-        ensures explains_as_ordered { self.new ≡ (if is_ok result then explaining_after (order command) self.old else self.old) }
-        ensures answers_as_ordered { OnOk result (string_bytes out.new ≡ string_bytes out.old ++ text_of self.old (order command)) }
+        ensures explains_as_ordered { Keeps result self.old self.new (explaining_after (order command) self.old) }
+        ensures answers_as_ordered { Appends result (string_bytes out.old) (string_bytes out.new) (text_of self.old (order command)) }
     {
         match command {
             Command::Explain { on } => {
@@ -57,8 +58,8 @@ impl Console {
     // Does what a line tells, and appends the text that answers it. Where the call fails, for want of memory, the
     // console is as it was.
     pub fn tell(&mut self, heap: Global, line: &[u8], out: &mut String) -> Result<(), AllocError>
-        ensures explains_as_told { self.new ≡ (if is_ok result then explaining_after (reading_of line.now) self.old else self.old) }
-        ensures answers_as_defined { OnOk result (string_bytes out.new ≡ string_bytes out.old ++ text_of self.old (reading_of line.now)) }
+        ensures explains_as_told { Keeps result self.old self.new (explaining_after (reading_of line.now) self.old) }
+        ensures answers_as_defined { Appends result (string_bytes out.old) (string_bytes out.new) (text_of self.old (reading_of line.now)) }
     {
         match read(heap, line) {
             Ok(None) => Ok(()),

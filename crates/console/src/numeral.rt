@@ -6,15 +6,12 @@ ghost use Rattle.console.specs.Numerals.{longer, after_plus, number_of};
 fn with_digit(value: u64, byte: u8, largest: u64) -> Option<u64>
     ensures { result ≡ longer largest value byte }
 {
-    if byte < b'0' || b'9' < byte {
+    if !byte.is_ascii_digit() {
         return None;
     }
-    let next = u128::from(value) * 10 + u128::from(byte - b'0');
-    if next <= u128::from(largest) {
-        Some(next as u64)
-    } else {
-        None
-    }
+    let tens = value.checked_mul(10)?;
+    let next = tens.checked_add(u64::from(byte - b'0'))?;
+    Some(next).filter(|n| *n <= largest)
 }
 
 // The word without a leading `+`.
@@ -35,9 +32,7 @@ pub fn number(word: &[u8], largest: u64) -> Option<u64>
     if digits.is_empty() {
         return None;
     }
-    let mut value = 0;
-    for b in digits {
-        value = with_digit(value, *b, largest)?;
-    }
-    Some(value)
+    digits
+        .iter()
+        .try_fold(0, |value, b| with_digit(value, *b, largest))
 }

@@ -9,7 +9,8 @@ pub(crate) enum Verb {
     Split,
 }
 
-// The verb that a word is, letter for letter.
+// The verb that a word is, letter for letter. An `Option`, as wherever a word is read as a value: a `TryFrom` would be no
+// plainer, since its error would be replaced by the caller, who alone knows whether the command or a number is bad.
 pub(crate) fn verb_named(word: &[u8]) -> Option<Verb>
     ensures { result ≡ verb_of word.now }
 {
