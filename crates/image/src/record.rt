@@ -60,7 +60,7 @@ pub struct AccountRecord {
 }
 
 impl AccountRecord {
-    // What stands in a table's place before a record is written there.
+    // What stands in a table's place before a record is written there, as a `Default` beside it would.
     pub const BLANK: AccountRecord = AccountRecord {
         code: 0,
         owner: 0,

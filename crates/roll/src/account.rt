@@ -14,7 +14,7 @@ pub struct Account {
 }
 
 impl Account {
-    // What stands in a table's place before an account is written there.
+    // What stands in a table's place before an account is written there. A constant, as the other kinds of record have.
     pub(crate) const BLANK: Account = Account {
         code: 0,
         owner: 0,
