@@ -5,9 +5,9 @@ use std::test::Fail;
 // Three places, and a row of four items: the last has no place.
 #[test]
 fn a_copy_has_the_records_that_found_a_place(rt: HostRuntime) -> Result<(), Fail> {
-    let table: Table<u8, 3> = Table::from_row(&[1u8, 2, 3, 4], 0, |item| *item * 10);
+    let table: Table<u8, 3> = Table::from_row(&[1u8, 2, 3, 4], 0, |item| *item);
     let copy = table.clone()?;
-    assert_eq!(rt; copy.as_slice(), [10, 20, 30].as_slice());
+    assert_eq!(rt; copy.as_slice(), [1, 2, 3].as_slice());
     Ok(())
 }
 
