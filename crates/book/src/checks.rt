@@ -50,7 +50,7 @@ impl RollCheck {
         }
     }
 
-    // The number by which a record that fails it is told.
+    // The number by which a record that fails it is told. Two checks share one, so it is no discriminant.
     pub(crate) fn number(self) -> u8
         ensures { result ≡ check_number self }
     {

@@ -34,7 +34,7 @@ impl OpenFault {
         }
     }
 
-    // The number by which the fault is told. The fault is the enum: the rules give one number to faults of several layers.
+    // The number by which the fault is told. No discriminant: the rules give one number to faults of several layers.
     pub fn number(self) -> u8
         ensures is_the_listed_number { result ≡ number_of self }
     {

@@ -10,12 +10,7 @@ use std::alloc::Global;
 fn digit(byte: u8) -> Option<u8>
     ensures { result ≡ digit_value byte }
 {
-    match byte {
-        b'0'..=b'9' => Some(byte - b'0'),
-        b'A'..=b'F' => Some(byte - b'A' + 10),
-        b'a'..=b'f' => Some(byte - b'a' + 10),
-        _ => None,
-    }
+    char::from(byte).to_digit(16).map(|value| value as u8)
 }
 
 // The byte of two digits.

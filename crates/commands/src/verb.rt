@@ -18,7 +18,7 @@ pub enum BasisName {
     Commitment,
 }
 
-// The verb that a word is, letter for letter. An `Option`, for the reason that the console's `verb_named` gives.
+// The verb that a word is, letter for letter. An `Option`: none is no fault here, since the console that splits then reads the line.
 pub(crate) fn verb_named(word: &[u8]) -> Option<Verb>
     ensures { result ≡ verb_of word.now }
 {
@@ -32,7 +32,7 @@ pub(crate) fn verb_named(word: &[u8]) -> Option<Verb>
     }
 }
 
-// The basis that a word names.
+// The basis that a word names. An `Option`, as of the console's verbs.
 pub(crate) fn basis_named(word: &[u8]) -> Option<BasisName>
     ensures { result ≡ basis_of word.now }
 {

@@ -9,7 +9,7 @@ use crate::word::place_of;
 use split::Stake;
 use std::alloc::Global;
 
-// The bearer that a word is: a code before its first colon, a weight after it.
+// The bearer that a word is: a code before its first colon, a weight after it. An `Option`, as of a verb.
 fn bearer(word: &[u8]) -> Option<Stake>
     ensures { result ≡ bearer_of word.now }
 {

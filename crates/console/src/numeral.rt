@@ -6,11 +6,8 @@ ghost use Rattle.console.specs.Numerals.{longer, after_plus, number_of};
 fn with_digit(value: u64, byte: u8, largest: u64) -> Option<u64>
     ensures { result ≡ longer largest value byte }
 {
-    if !byte.is_ascii_digit() {
-        return None;
-    }
-    let tens = value.checked_mul(10)?;
-    let next = tens.checked_add(u64::from(byte - b'0'))?;
+    let digit = char::from(byte).to_digit(10)?;
+    let next = value.checked_mul(10)?.checked_add(u64::from(digit))?;
     Some(next).filter(|n| *n <= largest)
 }
 
@@ -24,7 +21,7 @@ fn unsigned(word: &[u8]) -> &[u8]
     }
 }
 
-// The number that a word is, if it is one and at most the largest.
+// The number that a word is, if it is one and at most the largest. An `Option`, as its public clause says.
 pub fn number(word: &[u8], largest: u64) -> Option<u64>
     ensures is_the_number_of_the_word { result ≡ number_of largest word.now }
 {

@@ -9,8 +9,8 @@ pub(crate) enum Verb {
     Split,
 }
 
-// The verb that a word is, letter for letter. An `Option`, as wherever a word is read as a value: a `TryFrom` would be no
-// plainer, since its error would be replaced by the caller, who alone knows whether the command or a number is bad.
+// The verb that a word is, letter for letter. An `Option`, as wherever a word is read as a value: a word that is none of these
+// says no more than that, so the error of a `TryFrom` would have one case, and each place names its fault once, by `ok_or`.
 pub(crate) fn verb_named(word: &[u8]) -> Option<Verb>
     ensures { result ≡ verb_of word.now }
 {
@@ -21,7 +21,7 @@ pub(crate) fn verb_named(word: &[u8]) -> Option<Verb>
     }
 }
 
-// `on` or `off`.
+// `on` or `off`; an `Option`, as of a verb.
 pub(crate) fn switch(word: &[u8]) -> Option<bool>
     ensures { result ≡ switch_of word.now }
 {

@@ -7,7 +7,8 @@ ghost use Rattle.image.specs.Layout.{records_of};
 use crate::record::{AccountRecord, ParticipantRecord};
 use crate::tables::Image;
 
-// One method for each kind of record: it says which table it shows, and no more.
+// One method for each kind of record: it says which table it shows and how long that may be, and
+// no more.
 impl Image {
     // Its participants, in order.
     pub fn participants(&self) -> &[ParticipantRecord]

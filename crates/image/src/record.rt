@@ -60,7 +60,7 @@ pub struct AccountRecord {
 }
 
 impl AccountRecord {
-    // What stands in a table's place before a record is written there, as a `Default` beside it would.
+    // What stands in a table's place before a record is written there. A `Default` beside it would be a second blank.
     pub const BLANK: AccountRecord = AccountRecord {
         code: 0,
         owner: 0,

@@ -24,7 +24,8 @@ impl Roll {
         }
     }
 
-    // Its participants, in order. One method for each kind of record: it says which table it shows, and no more.
+    // Its participants, in order. One method for each kind of record: it says which table it shows
+    // and how long that may be, and no more.
     pub fn participants(&self) -> &[Participant]
         ensures are_its_participants { result.now ≡ (standing self.now).participants }
         ensures at_most_64 { length result.now ≤ 64 }

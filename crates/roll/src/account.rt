@@ -14,7 +14,8 @@ pub struct Account {
 }
 
 impl Account {
-    // What stands in a table's place before an account is written there. A constant, as the other kinds of record have.
+    // What stands in a table's place before an account is written there. A constant, as of the other kinds of record: a `Default`
+    // of this kind alone would be no plainer.
     pub(crate) const BLANK: Account = Account {
         code: 0,
         owner: 0,

@@ -8,7 +8,8 @@ use crate::filling::fill;
 use crate::table::Table;
 
 impl<T: Copy, const N: usize> Table<T, N> {
-    // A table without records; the blank stands in its places.
+    // A table without records; the blank stands in its places. It is handed in, here and below, since each kind of record has
+    // its own as a constant.
     pub fn empty(blank: T) -> Table<T, N>
         ensures has_no_records { records result ≡ [] }
     {
@@ -38,7 +39,8 @@ impl<T: Copy, const N: usize> Table<T, N> {
     {
         let mut places = [blank; N];
         let within = count.min(N);
-        // By number: of what is written through an iterator over the places, a proof knows nothing.
+        // By number: of what is written through an iterator over the places, a proof knows nothing. The library's
+        // `array::from_fn` asks that the array fits in memory, which nothing gives for every N.
         for i in 0..within {
             places[i] = make(i);
         }

@@ -13,6 +13,7 @@ use crate::refusal::Refusal;
 use rows::fill;
 
 // Why each bearer gets its share of the sum. Refused as `split` is, by the number of places that are lent.
+// The places stand beside the bearers, and in no row with them: there is no heap, so they are the caller's.
 #[tactic(auto, using(crate::proofs::Reckoning::shares_are, crate::proofs::Accepting::accepted, crate::proofs::Accepting::as_many, crate::proofs::Reckoning::row_within))]
 pub fn explain<B: Bearer>(sum: u64, bearers: &[B], reasons: &mut [Reason]) -> Result<(), Refusal>
     ensures answers_as_defined { result ≡ answer sum (length reasons.old) (map B.bears bearers.now) }
@@ -32,6 +33,7 @@ pub fn explain<B: Bearer>(sum: u64, bearers: &[B], reasons: &mut [Reason]) -> Re
 }
 
 // Splits the sum among the bearers in proportion to their weights, one share for each place from the first on.
+// The places are the caller's, as of `explain`.
 #[tactic(auto, using(crate::proofs::Promises::same_in_any_order, crate::proofs::Accepting::as_many, crate::proofs::Accepting::too_few_places, crate::proofs::Accepting::enough_places))]
 pub fn split<B: Bearer>(sum: u64, bearers: &[B], shares: &mut [u64]) -> Result<(), Refusal>
     ensures answers_as_defined { result ≡ answer sum (length shares.old) (map B.bears bearers.now) }
