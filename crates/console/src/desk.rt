@@ -34,7 +34,8 @@ impl Console {
     }
 
     // Does what a command orders, and appends the text that answers it. Where the call fails, for want of memory, the
-    // console is as it was.
+    // console is as it was. The heap and the text are the caller's, and go on as they come: a struct of both would be made
+    // anew for every line.
     pub fn obey(
         &mut self,
         heap: Global,
