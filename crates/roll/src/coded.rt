@@ -3,6 +3,7 @@ ghost use Rattle.std.specs.Prelude.{◌≡◌, ℕ, count_by, nat_eq};
 
 use crate::account::Account;
 use crate::participant::Participant;
+use rows::count_where;
 
 // A record that has a code.
 pub trait Coded {
@@ -34,5 +35,5 @@ impl Coded for Account {
 pub fn with_code<C: Coded>(code: u32, row: &[C]) -> usize
     ensures counts_those_with_the_code { result ≡ count_by (λ x. nat_eq (C.called x) code) row.now }
 {
-    row.iter().filter(|record| record.code() == code).count()
+    count_where(row, |record| record.code() == code)
 }

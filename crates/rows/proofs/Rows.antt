@@ -37,6 +37,9 @@ bit_small : (b : Bool) → cond b 1 0 ≤ 1
 bit_small true = omega arith
 bit_small false = omega arith
 
+pub byte_small : (b : Bool) → bool_byte b ≤ 1
+byte_small b = omega (arith, bit_is b, bit_small b)
+
 module _ {X : Type 0} (p : X → Bool) (xs : List X) where
   pub counted_more : (i n m : ℕ) (x : X) (b : Bool) → i < length xs → x ≡ get_or xs i x → Counted p xs i n → m ≡ bool_byte b → b ≡ p x → Counted p xs (i + 1) (n + m)
   counted_more i n m x b within read so bit test =

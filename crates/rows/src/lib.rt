@@ -2,9 +2,11 @@
 #![tactic(auto)]
 
 mod access;
+mod counting;
 mod filling;
 mod making;
 mod table;
 
+pub use counting::count_where;
 pub use filling::fill;
 pub use table::Table;

@@ -6,32 +6,27 @@ ghost use Rattle.split.specs.Shares.{all_weights};
 
 use crate::bearer::Bearer;
 use crate::refusal::Refusal;
+use rows::count_where;
 
 // The largest sum that is split.
 const SUM_LIMIT: u64 = 1_000_000_000;
 // The largest weight of one bearer.
 const WEIGHT_LIMIT: u64 = 9_000_000_000;
 // The most bearers of one row.
-pub(crate) const MOST_BEARERS: usize = 128;
+pub const MOST_BEARERS: usize = 128;
 
 // How many bearers weigh more than the limit.
 fn heavy<B: Bearer>(bearers: &[B]) -> usize
     ensures { result ≡ too_heavy (map B.bears bearers.now) }
 {
-    bearers
-        .iter()
-        .filter(|bearer| bearer.weight() > WEIGHT_LIMIT)
-        .count()
+    count_where(bearers, |bearer| bearer.weight() > WEIGHT_LIMIT)
 }
 
 // How many bearers have this code. The roll counts its records by a trait of its own, which a bearer need not have.
 fn bearing<B: Bearer>(code: u32, bearers: &[B]) -> usize
     ensures { result ≡ with_code code (map B.bears bearers.now) }
 {
-    bearers
-        .iter()
-        .filter(|bearer| bearer.code() == code)
-        .count()
+    count_where(bearers, |bearer| bearer.code() == code)
 }
 
 // Does another bearer of the row have its code? Its own counts as one.
@@ -46,10 +41,7 @@ fn shares_its_code<B: Bearer>(bearer: &B, row: &[B]) -> bool
 fn repeated<B: Bearer>(bearers: &[B]) -> usize
     ensures { result ≡ repeats (map B.bears bearers.now) }
 {
-    bearers
-        .iter()
-        .filter(|bearer| shares_its_code(*bearer, bearers))
-        .count()
+    count_where(bearers, |bearer| shares_its_code(bearer, bearers))
 }
 
 // All the weights together, where they are known to be few and small.
