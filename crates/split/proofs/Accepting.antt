@@ -1,5 +1,5 @@
 -- What an accepted split has met. Assumes nothing.
-use Rattle.std.proofs.Common.{◌≡◌, ℕ, ◌<◌, ◌≤◌, false, ltb, List, map, length, Ok, Err, sym, ◌∙◌, arith}
+use Rattle.std.proofs.Common.{◌≡◌, ℕ, ◌<◌, ◌≤◌, min, false, ltb, List, map, length, Ok, Err, sym, ◌∙◌, arith}
 use Rattle.std.specs.List.{AllByRecursion, ContainsAt as Has}
 use Rattle.std.proofs.ByRecursion.{All-weaker, all-has, sum_by_le}
 use Rattle.std.proofs.lemmas.List.{length-map}
@@ -60,3 +60,8 @@ too_few_places sum places xs short = grind (arith, nat_tests)
 pub enough_places : (sum places : ℕ) (xs : List Stake) → length xs ≤ places → answer sum 128 xs ≡ answer sum places xs
 unfolding answer
 enough_places sum places xs room = grind (arith, nat_tests)
+
+-- Places beyond the most bearers of a row decide nothing.
+pub places_enough : (sum n : ℕ) (xs : List Stake) → n ≡ length xs → answer sum (min n 128) xs ≡ answer sum n xs
+unfolding answer
+places_enough sum n xs many = grind (arith, nat_tests)

@@ -22,6 +22,17 @@ row_is sum total xs row weighs made = made ∙ ap (λ t. map (divide sum t) xs) 
 pub row_within : (sum total : ℕ) (xs : List Stake) (row : List Division) → total ≡ all_weights xs → row ≡ map (divide sum total) xs → wholes row ≤ sum
 row_within sum total xs row weighs made = omega (arith, ap wholes (row_is sum total xs row weighs made), wholes_within sum xs)
 
+-- It stands in the first places of a table, as many as there are bearers.
+module _ (sum total n : ℕ) (xs : List Stake) (table rest : List Division) (many : n ≡ length xs) (weighs : total ≡ all_weights xs) (written : table ≡ map (divide sum total) xs ++ rest) where
+  in_table : take n table ≡ map (divide sum total) xs
+  in_table = ap (take n) written ∙ take_at (map (divide sum total) xs) rest n (length-map xs (divide sum total) ∙ sym many)
+
+  pub table_is : take n table ≡ divisions sum xs
+  table_is = row_is sum total xs (take n table) weighs in_table
+
+  pub table_within : wholes (take n table) ≤ sum
+  table_within = row_within sum total xs (take n table) weighs in_table
+
 -- no whole part is above all of them
 pub wholes_small : (row : List Division) (most : ℕ) → wholes row ≤ most → AllByRecursion (λ d. d.whole ≤ most) row
 wholes_small row most small =

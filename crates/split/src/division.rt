@@ -1,12 +1,10 @@
 // One bearer's division, every bearer's, and which of two comes first for an odd dollar.
-ghost use Rattle.std.specs.Prelude.{◌≡◌, ◌≤◌, map, length, sum_by};
-ghost use Rattle.rows.specs.Tables.{records};
+ghost use Rattle.std.specs.Prelude.{◌≡◌, ◌≤◌, ◌++◌, map, length, drop, sum_by};
 ghost use Rattle.split.specs.Refusals.{too_heavy};
 ghost use Rattle.split.specs.Shares.{precedes as comes_first, divide as division_of, rank as rank_of};
 
 use crate::bearer::Bearer;
-use crate::limits::MOST_BEARERS;
-use rows::Table;
+use rows::{count_where, fill};
 use std::cmp::Reverse;
 
 // What sum x weight / all weights comes to for one bearer.
@@ -41,7 +39,7 @@ impl Division {
     pub fn rank(&self, row: &[Division]) -> usize
         ensures counts_those_before { result ≡ rank_of row.now self.now }
     {
-        row.iter().filter(|other| other.precedes(self)).count()
+        count_where(row, |other| other.precedes(self))
     }
 }
 
@@ -62,22 +60,15 @@ fn divide<B: Bearer>(sum: u64, total: u64, bearer: &B) -> Division
     }
 }
 
-// Every bearer's division, in the order of the row.
-pub(crate) fn divide_all<B: Bearer>(
-    sum: u64,
-    total: u64,
-    bearers: &[B],
-) -> Table<Division, MOST_BEARERS>
+// Every bearer's division, one for each place from the first on; spare places stay. The places are lent, as everywhere: a table
+// that is made here and handed out is copied on its way, which takes longer than the divisions of a few bearers.
+pub(crate) fn divide_all<B: Bearer>(sum: u64, total: u64, bearers: &[B], table: &mut [Division])
     requires small { sum ≤ 1000000000 }
     requires light { too_heavy (map B.bears bearers.now) ≡ 0 }
-    requires few { length bearers.now ≤ 128 }
-    ensures { records result ≡ map (division_of sum total) (map B.bears bearers.now) }
+    requires room { length bearers.now ≤ length table.old }
+    ensures { table.new ≡ map (division_of sum total) (map B.bears bearers.now) ++ drop (length bearers.now) table.old }
 {
-    Table::from_row(
-        bearers,
-        Division::BLANK,
-        |bearer| divide(sum, total, bearer),
-    )
+    fill(bearers, table, |bearer| divide(sum, total, bearer));
 }
 
 // All the whole parts of a row together.

@@ -10,6 +10,7 @@ mod splitting;
 
 pub use bearer::{Bearer, Stake};
 pub use division::Division;
+pub use limits::MOST_BEARERS;
 pub use reason::Reason;
 pub use refusal::Refusal;
 pub use splitting::{explain, split};
