@@ -6,7 +6,7 @@ ghost use Rattle.console.specs.Answers.{split_text};
 ghost use Rattle.console.specs.Lines.{refusal_line, reason_line, told_lines};
 ghost use Rattle.console.specs.Texts.{Appends};
 
-use split::{Reason, Refusal, Stake};
+use split::{MOST_BEARERS, Reason, Refusal, Stake};
 use std::alloc::{AllocError, Global};
 use std::fmt;
 
@@ -71,7 +71,7 @@ fn print_all(
 }
 
 // Splits the sum, and appends the text that answers it. A reason holds its bearer's code and share, so the reasons alone
-// are asked for.
+// are asked for. No more places are lent than a row may have bearers: a longer one is refused however many there are.
 pub(crate) fn answer_split(
     heap: Global,
     explaining: bool,
@@ -81,7 +81,8 @@ pub(crate) fn answer_split(
 ) -> Result<(), AllocError>
     ensures { Appends result (string_bytes out.old) (string_bytes out.new) (split_text explaining sum bearers.now) }
 {
-    let mut reasons = vec![in heap; Reason::BLANK; bearers.len()]?;
+    let places = bearers.len().min(MOST_BEARERS);
+    let mut reasons = vec![in heap; Reason::BLANK; places]?;
     match split::explain(sum, bearers, reasons.as_mut_slice()) {
         Ok(()) => print_all(explaining, sum, reasons.as_slice(), out),
         Err(refusal) => write!(out, "{}", Refused(refusal)),
