@@ -36,7 +36,10 @@ pub fn serve_with<F: FnMut(&[u8], &mut String) -> io::Result<()> + Drop>(
             break;
         }
         answer(without_end(line.as_slice()), &mut text)?;
-        output.write_all(text.as_bytes())?;
+        // A line without words is answered by nothing, and many lines have none.
+        if !text.is_empty() {
+            output.write_all(text.as_bytes())?;
+        }
         // Where no more input waits, what is answered so far goes out.
         if input.buffer().is_empty() {
             output.flush()?;
