@@ -22,12 +22,15 @@ fn pair(first: u8, second: u8) -> Option<u8>
     Some(high * 16 + low)
 }
 
-// The bytes that a word is, a pair of digits each. The library's `hex::decode` is no plainer: its errors name a digit and
-// its place, which no answer prints, so that each would be mapped away and memory told apart, and what it gives is defined
-// with those errors, which a proof would have to carry over.
+// The bytes that a word is, a pair of digits each. A word with a digit over is none, however long it is, before any is read.
+// The library's `hex::decode` is no plainer: its errors name a digit and its place, which no answer prints, so that each would
+// be mapped away and memory told apart, and what it gives is defined with those errors, which a proof would have to carry over.
 pub(crate) fn hex(heap: Global, word: &[u8]) -> Result<Vec<u8>, ReadError>
     ensures { Tells (λ found. Some (vec_items found)) NotCounted result (bytes_of word.now) }
 {
+    if word.len() % 2 != 0 {
+        return Err(ReadError::BadNumber);
+    }
     let mut found = Vec::new(heap);
     let mut digits = word;
     while let [first, second, rest @ ..] = digits {
@@ -35,9 +38,5 @@ pub(crate) fn hex(heap: Global, word: &[u8]) -> Result<Vec<u8>, ReadError>
         found.push(byte)?;
         digits = rest;
     }
-    if digits.is_empty() {
-        Ok(found)
-    } else {
-        Err(ReadError::BadNumber)
-    }
+    Ok(found)
 }
