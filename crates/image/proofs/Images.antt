@@ -1,5 +1,5 @@
 -- What an image without a fault in its head has met, and that its records have its bytes. Assumes nothing.
-use Rattle.std.proofs.Common.{◌≡◌, ℕ, zero, suc, ◌+◌, ◌*◌, ◌<◌, ◌≤◌, min, List, ◌++◌, map, length, take, drop, Some, None, Ok, Option, sym, refl, ap, ◌∙◌, subst, mul-zero, mul-one, mul-suc, mul-add, arith, take-add}
+use Rattle.std.proofs.Common.{◌≡◌, ℕ, zero, suc, ◌+◌, ◌*◌, ◌<◌, ◌≤◌, List, ◌++◌, map, length, take, drop, Some, None, Ok, Option, sym, refl, ap, ◌∙◌, subst, mul-zero, mul-one, mul-suc, mul-add, arith, take-add}
 use Rattle.std.specs.List.{range_with_len, flat_map}
 use Rattle.std.specs.Int.Digits.{AllBelowBase}
 use Rattle.std.proofs.lemmas.List.FromFn.{length-map-range_with_len}
@@ -120,21 +120,17 @@ records_have_the_bytes bytes under ok =
     ∙ ap (λ l. take 7 bytes ++ l) (joint bytes 7 (21 * p) (24 * a) (7 + 21 * p + 24 * 0) (omega arith) ∙ take_all (21 * p + 24 * a) (drop 7 bytes) (omega (arith, length-drop 7 bytes)))
     ∙ take-append-drop 7 bytes
 
--- as many as are counted, where that many fit
-within_places : {Y : Type 0} (f : ℕ → Y) (count most given : ℕ) → given ≡ count → count ≤ most → map f (range_with_len 0 (min given most)) ≡ map f (range_with_len 0 count)
-within_places f count most given e few = ap (λ n. map f (range_with_len 0 n)) (let all : min given most ≡ count = omega arith in all)
-
 -- what is read into the tables are the records of the bytes
 module _ (bytes : List ℕ) (image : Image) (ok : Headed bytes) where
   pub reads_the_records : (participants accounts first : ℕ) → participants ≡ participant_count bytes → accounts ≡ account_count bytes → first ≡ account_place participants 0
-      → table_records image.participants ≡ map (λ i. participant_at bytes (7 + 21 * i)) (range_with_len 0 (min participants 64))
-      → table_records image.accounts ≡ map (λ i. account_at bytes (first + 24 * i)) (range_with_len 0 (min accounts 128))
+      → table_records image.participants ≡ map (λ i. participant_at bytes (7 + 21 * i)) (range_with_len 0 participants)
+      → table_records image.accounts ≡ map (λ i. account_at bytes (first + 24 * i)) (range_with_len 0 accounts)
       → records_of image ≡ records_at bytes
   unfolding records_of records_at
   reads_the_records participants accounts first p a f ps qs =
       let at : first ≡ 7 + 21 * participant_count bytes = omega arith in
-      ap (λ l. records l (table_records image.accounts)) (ps ∙ within_places (λ i. participant_at bytes (7 + 21 * i)) (participant_count bytes) 64 participants p ok.few_participants)
-      ∙ ap (records _) (qs ∙ within_places (λ i. account_at bytes (first + 24 * i)) (account_count bytes) 128 accounts a ok.few_accounts
+      ap (λ l. records l (table_records image.accounts)) (ps ∙ ap (λ n. map (λ i. participant_at bytes (7 + 21 * i)) (range_with_len 0 n)) p)
+      ∙ ap (records _) (qs ∙ ap (λ n. map (λ i. account_at bytes (first + 24 * i)) (range_with_len 0 n)) a
       ∙ ap (λ n. map (λ i. account_at bytes (n + 24 * i)) (range_with_len 0 (account_count bytes))) at)
 
 -- the counts of an image without a fault in its head

@@ -1,5 +1,5 @@
 // Reading an image.
-ghost use Rattle.std.specs.Prelude.{◌≡◌, ◌+◌, ◌*◌, ◌≤◌, min, map, length, IfOk};
+ghost use Rattle.std.specs.Prelude.{◌≡◌, ◌+◌, ◌*◌, ◌≤◌, [], map, length, IfOk};
 ghost use Rattle.std.specs.List.{range_with_len};
 ghost use Rattle.std.specs.Result.{result_map_both};
 ghost use Rattle.image.specs.Faults.{head_fault, unless, image_of};
@@ -60,24 +60,26 @@ fn counted(bytes: &[u8]) -> Result<Counts, ImageFault>
     })
 }
 
-// The table of so many records, one behind the other, the first of which begins at a place.
-fn table_at<R: Stored + Copy, const N: usize>(
+// Reads so many records, one behind the other, the first of which begins at a place, into an empty table. The table is lent,
+// since one that is handed out is copied on its way.
+fn read_in<R: Stored + Copy, const N: usize>(
     bytes: &[u8],
     first: usize,
     count: usize,
-    blank: R,
-) -> Table<R, N>
-    requires { first + R.WIDTH * count ≤ length bytes.now }
-    ensures { records result ≡ map (λ i. R.stored_at bytes.now (first + R.WIDTH * i)) (range_with_len 0 (min count N)) }
+    table: &mut Table<R, N>,
+)
+    requires in_image { first + R.WIDTH * count ≤ length bytes.now }
+    requires room { count ≤ N }
+    requires empty { records table.old ≡ [] }
+    ensures { records table.new ≡ map (λ i. R.stored_at bytes.now (first + R.WIDTH * i)) (range_with_len 0 count) }
 {
     // The closure asks again that the bytes are there: it is told nothing of what the function around it asks.
-    Table::tabulate(
+    table.push_each(
         count,
-        blank,
         |i|
             requires { first + R.WIDTH * i + R.WIDTH ≤ length bytes.now }
         { R::read_at(bytes, first + R::WIDTH * i) },
-    )
+    );
 }
 
 // The records of an image, or what is wrong with its head.
@@ -87,9 +89,12 @@ pub fn read(bytes: &[u8]) -> Result<Image, ImageFault>
     ensures counts_are_within_limits { IfOk result (λ image. FewRecords (records_of image)) }
 {
     let counts = counted(bytes)?;
-    let accounts = HEAD + ParticipantRecord::WIDTH * counts.participants;
-    Ok(Image {
-        participants: table_at(bytes, HEAD, counts.participants, ParticipantRecord::BLANK),
-        accounts: table_at(bytes, accounts, counts.accounts, AccountRecord::BLANK),
-    })
+    let mut image = Image {
+        participants: Table::empty(ParticipantRecord::BLANK),
+        accounts: Table::empty(AccountRecord::BLANK),
+    };
+    read_in(bytes, HEAD, counts.participants, &mut image.participants);
+    let first = HEAD + ParticipantRecord::WIDTH * counts.participants;
+    read_in(bytes, first, counts.accounts, &mut image.accounts);
+    Ok(image)
 }

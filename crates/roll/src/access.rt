@@ -12,6 +12,7 @@ use rows::Table;
 
 impl Roll {
     // A roll without records.
+    #[inline(always)]
     pub fn empty() -> Roll
         ensures has_no_participants { (standing result).participants ≡ [] }
         ensures has_no_accounts { (standing result).accounts ≡ [] }

@@ -1,7 +1,8 @@
-// Looking at the records of a table, and writing over them.
-ghost use Rattle.std.specs.Prelude.{◌≡◌, ◌<◌, ◌≤◌, [], ◌∷◌, ◌++◌, length, slice_index_or, slice_set};
+// Looking at the records of a table, adding to them and changing one.
+ghost use Rattle.std.specs.Prelude.{◌≡◌, ℕ, ◌+◌, ◌<◌, ◌≤◌, [], ◌∷◌, ◌++◌, map, length, slice_index_or, slice_set};
+ghost use Rattle.std.specs.List.{range_with_len};
 ghost use Rattle.rows.specs.Filling.{ChangesBy};
-ghost use Rattle.rows.specs.Tables.{records};
+ghost use Rattle.rows.specs.Tables.{records, GivesOfNumbers};
 
 use crate::table::Table;
 
@@ -21,6 +22,17 @@ impl<T: Copy, const N: usize> Table<T, N> {
     {
         self.places[self.count] = value;
         self.count += 1;
+    }
+
+    // Puts behind the records what `make` gives of the numbers from 0 on, so many of them.
+    pub fn push_each<F: Fn(usize) -> T>(&mut self, count: usize, make: F)
+        requires room { length (records self.old) + count ≤ N }
+        requires takes_each_number { (i : ℕ) → i < count → F.pre make i }
+        ensures adds_them_at_the_end { (g : ℕ → T) → GivesOfNumbers F.Fn make g → records self.new ≡ records self.old ++ map g (range_with_len 0 count) }
+    {
+        for i in 0..count {
+            self.push(make(i));
+        }
     }
 
     // Has a rule change the record at a place. A place beyond the records changes nothing.

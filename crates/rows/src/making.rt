@@ -10,6 +10,7 @@ use crate::table::Table;
 impl<T: Copy, const N: usize> Table<T, N> {
     // A table without records; the blank stands in its places. It is handed in, here and below, since each kind of record has
     // its own as a constant.
+    #[inline(always)]
     pub fn empty(blank: T) -> Table<T, N>
         ensures has_no_records { records result ≡ [] }
     {

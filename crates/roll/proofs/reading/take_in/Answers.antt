@@ -6,7 +6,7 @@ use Rattle.rows.specs.Tables.{records as table_records}
 use Rattle.roll.specs.declared.fault.RollFault.TheVariants.{Field}
 use Rattle.roll.proofs.Enrolling.{made_more}
 use Rattle.roll.proofs.Finding.{told_here, not_here, nowhere, was_ok, was_error}
-use Rattle.roll.proofs.reading.taken_in.Goals as goal
+use Rattle.roll.proofs.reading.take_in.Goals as goal
 
 pub push-requires : goal.push-requires
 push-requires g c =

@@ -2,7 +2,7 @@ use Rattle.std.proofs.Common.{◌≡◌, ◌+◌, ◌*◌, take, drop, Ok}
 use Rattle.std.specs.List.{AllZip}
 use Rattle.rows.specs.Tables.{records as table_records}
 use Rattle.roll.specs.Limits.{first_fault}
-use Rattle.roll.proofs.reading.taken_in.Given as goal
+use Rattle.roll.proofs.reading.take_in.Given as goal
 
 -- the records so far have no fault, and what they give is in the table
 abbrev pub invariant-loop-i : goal.invariant-loop-i
