@@ -3,4 +3,5 @@ pub mod Firsts
 pub mod Fresh
 pub mod Keeping
 pub mod Modelling
+pub mod Staking
 pub mod Telling
