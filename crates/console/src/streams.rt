@@ -36,7 +36,7 @@ pub fn serve_with<F: FnMut(&[u8], &mut String) -> io::Result<()> + Drop>(
             break;
         }
         answer(without_end(line.as_slice()), &mut text)?;
-        // A line without words is answered by nothing, and many lines have none.
+        // A line without words, or one that only sets something, is answered by nothing.
         if !text.is_empty() {
             output.write_all(text.as_bytes())?;
         }

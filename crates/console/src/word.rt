@@ -32,7 +32,7 @@ fn word_start(line: &[u8]) -> Option<usize>
     line.iter().position(|b| !is_blank(*b))
 }
 
-// Where the word ends with which bytes begin, if it does before them.
+// Where the word ends that stands at the front of bytes, if it ends before they do.
 fn word_end(bytes: &[u8]) -> Option<usize>
     ensures { result ≡ position (λ b. blank b || b == 35) bytes.now }
 {

@@ -11,7 +11,7 @@ use crate::table::Roll;
 use rows::Table;
 
 impl Roll {
-    // A roll without records.
+    // A roll without records. Marked as `Table::empty` is, and for the same reason.
     #[inline(always)]
     pub fn empty() -> Roll
         ensures has_no_participants { (standing result).participants ≡ [] }

@@ -9,7 +9,8 @@ use crate::table::Table;
 
 impl<T: Copy, const N: usize> Table<T, N> {
     // A table without records; the blank stands in its places. It is handed in, here and below, since each kind of record has
-    // its own as a constant.
+    // its own as a constant. Marked, so that the compiler sees there that a blank is all zeros: else each place is written by
+    // itself, and the table is copied on its way.
     #[inline(always)]
     pub fn empty(blank: T) -> Table<T, N>
         ensures has_no_records { records result ≡ [] }
